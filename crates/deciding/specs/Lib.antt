@@ -1,0 +1,7 @@
+pub mod Away
+pub mod Calls
+pub mod Deciding
+pub mod Laws
+pub mod Machine
+pub mod Refusable
+pub mod Sizes

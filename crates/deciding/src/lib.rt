@@ -1,0 +1,3 @@
+pub mod object;
+pub mod questions;
+pub mod record;
