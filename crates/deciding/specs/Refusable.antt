@@ -123,6 +123,15 @@ module _ (m : Machine) (d : Deciding m) where
     laws = λ p r. laws (p .inner) (p .refused) r;
   }
 
+  -- what it says of an object that it is reached
+  pub is-made : (x : Refusable (m .State)) → refusable-deciding .Reached x → x .refused ≡ None → Made m d (x .inner)
+  unfolding refusable-deciding
+  is-made x reached = reached
+
+  pub is-reached : (x : Refusable (m .State)) → (x .refused ≡ None → Made m d (x .inner)) → refusable-deciding .Reached x
+  unfolding refusable-deciding
+  is-reached x made = made
+
   -- an object with at least one station was not refused
   pub sizes-where-made : (x : m .State) → d .Reached x → one-to-sixteen (m .stations x) ≡ true → Sizes (m .stations x) (m .limit x) (m .registers x)
   sizes-where-made x reached small = go (m .refused x) refl

@@ -1,0 +1,5 @@
+pub mod Frame
+pub mod Kept
+pub mod Making
+pub mod Protocol
+pub mod Rows

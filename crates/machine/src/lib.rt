@@ -1,0 +1,3 @@
+pub mod machine;
+pub mod protocol;
+pub mod status;
