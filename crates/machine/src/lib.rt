@@ -1,3 +1,4 @@
 pub mod machine;
+pub mod marks;
 pub mod protocol;
 pub mod status;
