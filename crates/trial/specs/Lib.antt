@@ -1,0 +1,4 @@
+pub mod Events
+pub mod Law
+pub mod Perform
+pub mod Trials
