@@ -28,16 +28,11 @@ use Rattle.trial.specs.declared.call.Answer.{Answer}
 use Rattle.trial.specs.declared.call.Answer.the-variants.{Refused as refused, Entered as entered, Stepped as stepped, Stopped as stopped}
 use Rattle.trial.specs.Events.{Event, _gives_, events-of, Among, Comes, Entered, Brought, Stopped}
 use Rattle.trial.specs.Law.{Question, is-station, not-stopped, not-entered, has-entered, no-outcome, refusal, questions, Yes, First-no, All-yes, Judged, steps-of, Shows, Lawful, In-range}
-use Rattle.trial.specs.Perform.{Trial-state, begun, station-of, Small, Performed, entered-as, stepped-as, unless, perform, answers, last}
+use Rattle.trial.specs.Perform.{Trial-state, begun, station-of, Small, All-small, Performed, entered-as, stepped-as, unless, perform, answers, last}
 use Rattle.trial.proofs.EventLists.{more, among-past, among-last, among-more, Turns, shows-more, Quiet, quiet-turns, refused-quiet, stopped-quiet, entered-quiet, stepped-quiet, entered-turns, stepped-turns}
 
 apart : {P : Type 0} → _≡_ {A = ℕ} 0 1 → P
 apart e = absurd (omega arith)
-
--- the marks that calls enter with are marks
-abbrev pub All-small : List Call → Type 0
-All-small [] = Unit {0}
-All-small (c ∷ cs) = Small c × All-small cs
 
 -- QUESTIONS: what a trial does is to go through the questions of the law, by tests on its state, to the first no
 

@@ -14,7 +14,12 @@ use Rattle.deciding.specs.Machine.{Machine}
 use Rattle.deciding.specs.Deciding.{Deciding}
 use Rattle.deciding.specs.Questions.{all-are-away}
 use Rattle.deciding.specs.Refusable.{refusable, Refusable-reached, with-refusal, if-made, sizes-where-made}
-use Rattle.trial.specs.Perform.{trial-refusal}
+use mathlib.Core.List.{List}
+use Rattle.deciding.specs.Refusable.{refusable-deciding, is-reached}
+use Rattle.trial.specs.declared.call.Call.{Call}
+use Rattle.trial.specs.Perform.{All-small, trial-refusal}
+use Rattle.trial.specs.Trials.{Lawful-trial}
+use Rattle.trial.proofs.LawOfRuns.{lawful}
 
 clash : {A : Type 0} → _≡_ {A = ℕ} 0 1 → A
 clash e = absurd (omega arith)
@@ -38,3 +43,9 @@ module _ (m : Machine) (d : Deciding m) (x : m .State) (reached : d .Reached x) 
       let is : trial-refusal m x ≡ None = cc in
       let (small, away) = both (one-to-sixteen (m .stations x)) (all-away (m .record-of x) 16) is in
       all-are-away m d x reached small away s
+
+  -- the law of runs, of every object that is reached
+  pub lawful-trial : (calls : List Call) → All-small calls → Lawful-trial m x calls
+  lawful-trial calls small =
+      lawful (refusable m) (refusable-deciding m d) (with-refusal x (trial-refusal m x))
+      (is-reached m d (with-refusal x (trial-refusal m x)) (trial-reached (trial-refusal m x) refl)) (trial-away (trial-refusal m x) refl) calls small

@@ -12,8 +12,8 @@ use Rattle.trial.specs.declared.call.Call.{Call}
 use Rattle.trial.specs.declared.call.Answer.{Answer}
 use Rattle.trial.specs.Events.{events-of}
 use Rattle.trial.specs.Law.{Lawful, In-range}
-use Rattle.trial.specs.Perform.{Trial-state, begun, Small, perform, Performs, answers, last}
-use Rattle.trial.proofs.LawOfRuns.{All-small, happened, lawful, in-range}
+use Rattle.trial.specs.Perform.{Trial-state, begun, Small, All-small, perform, Performs, answers, last}
+use Rattle.trial.proofs.LawOfRuns.{lawful, in-range}
 use Rattle.trial.proofs.Performing.{perform-reached}
 
 -- one call more

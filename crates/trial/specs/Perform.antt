@@ -42,6 +42,10 @@ Small (Enter s v) = v < marks
 Small (Step s c) = Unit {0}
 Small (Stop s) = Unit {0}
 
+abbrev pub All-small : List Call → Type 0
+All-small [] = Unit {0}
+All-small (c ∷ cs) = Small c × All-small cs
+
 -- what each of the three calls answers by itself, as an answer
 abbrev pub entered-as : Result (Unit {0}) Refusal → Answer
 entered-as (Ok u) = Entered

@@ -15,6 +15,17 @@ use Rattle.trial.specs.Events.{events-of}
 use Rattle.trial.specs.Law.{Lawful, In-range}
 use Rattle.trial.specs.Perform.{Trial-state, begun, trial-refusal, Performs, answers, last}
 
+-- a trial of an object in the state x, just made
+abbrev pub new-trial : (m : Machine) → m .State → Trial-state (Refusable (m .State))
+new-trial m x = begun (with-refusal x (trial-refusal m x))
+
+-- the calls are put to it, and obey the law of runs
+abbrev pub Lawful-trial : (m : Machine) → m .State → List Call → Type 0
+Lawful-trial m x calls =
+    let shows = refusable m in
+    let new = new-trial m x in
+    Lawful (shows .stations (new .object)) (shows .limit (new .object)) (shows .ratifying (new .object)) (events-of calls (answers shows new calls)) (shows .record-of (last shows new calls .object))
+
 module _ {D : Type 0} (G : Ghosts D) where
   -- the pile as its trial shows it: nothing at all, where the trial was refused
   abbrev pub whole : Machine
@@ -33,7 +44,7 @@ module _ {D : Type 0} (G : Ghosts D) where
 
   -- a trial of this pile as its making leaves it
   abbrev pub made-of : D → Trial-state (Refusable (G .machine .State))
-  made-of d = begun (with-refusal (G .state d) (trial-refusal (G .machine) (G .state d)))
+  made-of d = new-trial (G .machine) (G .state d)
 
   -- as trials of piles begun new begin: all records away, nobody stopped
   pub record Begun (t : Trial D) : Type 0 where
