@@ -35,6 +35,17 @@ pub enum CollectPhase {
     },
 }
 
+const FIRST_MARK: CollectPhase = CollectPhase::ReadMarks {
+    next: 0,
+    agree: true,
+};
+
+const FIRST_VOTE: CollectPhase = CollectPhase::ReadVotes {
+    next: 0,
+    clean: true,
+    found: None,
+};
+
 // Is the content empty, or the one expected?
 fn fits(expected: u16, content: u16) -> bool
     ensures { λ r. ⌜ r ≡ fitting expected content ⌝ }
@@ -97,7 +108,7 @@ pub impl Protocol for Collect as CollectProtocol {
     }
 
     fn registers(&self) -> u16 {
-        2 * u16::from(self.stations)
+        u16::from(self.stations) * 2
     }
 
     fn ratifying(&self) -> bool {
@@ -105,11 +116,11 @@ pub impl Protocol for Collect as CollectProtocol {
     }
 
     fn question(&self) -> Option<Refusal> {
-        None
+        None // it asks nothing of its own
     }
 
     fn begin(&self) -> CollectPhase {
-        CollectPhase::WriteMark
+        CollectPhase::WriteMark // its own mark stands before it reads another
     }
 
     fn plan(&self, station: u8, proposal: u8, phase: &CollectPhase) -> Plan {
@@ -134,10 +145,7 @@ pub impl Protocol for Collect as CollectProtocol {
         _coin: u8,
     ) -> Option<Outcome> {
         match *phase {
-            CollectPhase::WriteMark => *phase = CollectPhase::ReadMarks {
-                next: 0,
-                agree: true,
-            },
+            CollectPhase::WriteMark => *phase = FIRST_MARK,
             CollectPhase::ReadMarks { next, agree } => {
                 let agree = agree && fits(u16::from(proposal) + 1, content);
                 let next = next.saturating_add(1);
@@ -147,11 +155,7 @@ pub impl Protocol for Collect as CollectProtocol {
                     CollectPhase::WriteVote { agree }
                 };
             }
-            CollectPhase::WriteVote { .. } => *phase = CollectPhase::ReadVotes {
-                next: 0,
-                clean: true,
-                found: None,
-            },
+            CollectPhase::WriteVote { .. } => *phase = FIRST_VOTE,
             CollectPhase::ReadVotes { next, clean, found } => {
                 let clean = clean && fits(vote(true, proposal), content);
                 let found = first_full(found, content);

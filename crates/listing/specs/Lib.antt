@@ -1,0 +1,4 @@
+pub mod Lines
+pub mod Over
+pub mod Puts
+pub mod Words

@@ -1,0 +1,5 @@
+pub mod Lines
+pub mod Piles
+pub mod Responders
+pub mod Runs
+pub mod Serving

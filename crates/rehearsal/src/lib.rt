@@ -1,0 +1,5 @@
+mod judge;
+mod piles;
+mod responder;
+pub mod run;
+mod verdict;

@@ -1,0 +1,9 @@
+-- The number of a pile has one digit.
+use Prim.Native.Nat.{_<_}
+use native.Mathlib.Omega.{arith}
+use Rattle.schedule.specs.declared.pile.Pile.{Pile}
+use Rattle.schedule.specs.declared.pile.Pile.the-variants.{Collect}
+use Rattle.schedule.specs.Piles.{number-of-pile}
+
+pub pile-digit : (p : Pile) → number-of-pile p < 10
+pile-digit Collect = omega arith

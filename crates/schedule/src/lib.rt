@@ -1,0 +1,3 @@
+pub mod command;
+pub mod pile;
+pub mod reader;

@@ -1,0 +1,29 @@
+ghost use mathlib.Core.Path.{_≡_};
+ghost use Rattle.schedule.specs.Piles.{number-of-pile, pile-numbered, Names};
+use refusal::Refusal;
+
+// A pile is what the laboratory puts to a trial: one deciding machine, or several that a station goes through one after
+// another, together with the boards of registers that they work on. A schedule asks for a pile by its number.
+#[derive(Clone, Copy, PartialEq, Eq, Debug)]
+pub enum Pile {
+    Collect = 1,
+}
+
+impl Pile {
+    pub fn number(self) -> u8
+        ensures { λ r. ⌜ r ≡ number-of-pile self ⌝ }
+    {
+        self as u8
+    }
+
+    // The pile of a number.
+    pub fn named(number: u8) -> Result<Pile, Refusal>
+        ensures is { λ r. ⌜ r ≡ pile-numbered number ⌝ }
+        ensures names { λ r. ⌜ Names number r ⌝ }
+    {
+        match number {
+            1 => Ok(Pile::Collect),
+            _ => Err(Refusal::UnknownPile),
+        }
+    }
+}
