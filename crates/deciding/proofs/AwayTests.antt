@@ -7,6 +7,7 @@ use mathlib.Core.Bool.{Bool, true, false, _&&_}
 use mathlib.Core.Logic.{_⊎_, inl, inr}
 use Rattle.std.proofs.shelf.Tests.{cases-eq}
 use Rattle.deciding.specs.declared.record.Record.{Record}
+use Rattle.deciding.specs.declared.record.Record.the-variants.{Away}
 use Rattle.deciding.specs.Away.{is-away, all-away}
 
 pub away-none : (f : ℕ → Record) → all-away f 0 ≡ true
@@ -29,3 +30,9 @@ away-not f (suc k) i h e = go (cases-eq i k) (λ l. away-not f k i l e)
     go : (i ≡ k) ⊎ (i ≡ k → ⊥) → (i < k → all-away f k ≡ false) → (all-away f k && is-away (f k)) ≡ false
     go (inl p) below = let q : is-away (f k) ≡ false = cc in rw q (false-right (all-away f k))
     go (inr p) below = rw (below (omega arith)) refl
+
+-- where every record is away, they all are
+pub away-all : (f : ℕ → Record) → ((s : ℕ) → f s ≡ Away) → (k : ℕ) → all-away f k ≡ true
+unfolding all-away
+away-all f away zero = refl
+away-all f away (suc k) = rw (away-all f away k, away k) refl

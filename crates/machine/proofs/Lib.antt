@@ -1,2 +1,3 @@
 pub mod Empties
+pub mod Passing
 pub mod Seats
