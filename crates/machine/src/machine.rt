@@ -109,7 +109,12 @@ fn advance<P: Protocol>(
 ) -> Option<Outcome>
     ensures { λ r. ⌜ Advances (P·Protocol .rules) (P·Protocol .meets) (now (protocol .entry)) station content coin (now (row .entry)) r (now (row .exit)) ⌝ }
 {
-    let Status::Running { proposal, steps, phase } = row else {
+    let Status::Running {
+        proposal,
+        steps,
+        phase,
+    } = row
+    else {
         return None;
     };
     *steps = steps.saturating_add(1);
@@ -206,7 +211,9 @@ pub impl<P: Protocol, B: Board> DecidingObject for StepMachine<P, B> as StepMach
         match self.status(station) {
             Status::Absent => Record::Away,
             Status::Running {
-                proposal, steps, ..
+                proposal,
+                steps,
+                ..
             } => Record::UnderWay { proposal, steps },
             Status::Done {
                 proposal,
@@ -245,7 +252,9 @@ pub impl<P: Protocol, B: Board> DecidingObject for StepMachine<P, B> as StepMach
             Status::Absent => Err(Refusal::NotEntered),
             Status::Done { .. } => Err(Refusal::AlreadyAnswered),
             Status::Running {
-                proposal, phase, ..
+                proposal,
+                phase,
+                ..
             } => {
                 let plan = self.protocol.plan(station, proposal, &phase);
                 let operation = carry_out(&mut self.board, plan)?;

@@ -40,7 +40,11 @@ fn judge_command(command: Command) -> Verdict
     ensures goes { λ r. ⌜ Goes-on r ⌝ }
 {
     match command {
-        Command::New(operands) => judge_new(operand(operands, 0), operand(operands, 1), operand(operands, 2)),
+        Command::New(operands) => judge_new(
+            operand(operands, 0),
+            operand(operands, 1),
+            operand(operands, 2),
+        ),
         Command::Enter(operands) => Verdict::Asks(Call::Enter {
             station: operand(operands, 0),
             mark: operand(operands, 1),
@@ -59,11 +63,7 @@ fn judge_command(command: Command) -> Verdict
 fn operand(operands: &[u8], at: usize) -> u8
     ensures { λ r. ⌜ r ≡ getD (now (operands .entry)) at 0 ⌝ }
 {
-    if at < operands.len() {
-        operands[at]
-    } else {
-        0
-    }
+    if at < operands.len() { operands[at] } else { 0 }
 }
 
 // Is there such a pile, is the number of stations 1 to 16, is the leader one of them?

@@ -93,7 +93,13 @@ fn renew(start: Start, reader: &mut Reader, listing: &mut [u8], at: usize) -> Se
     ensures waits { λ r. ⌜ Waits (length (now (now (reader .entry) .schedule))) (now (reader .entry) .position) r (now (reader .exit) .position) (now (listing .exit)) ⌝ }
 {
     match start.pile {
-        Pile::Collect => begin(start.pile, collect_ratifier(start.stations), reader, listing, at),
+        Pile::Collect => begin(
+            start.pile,
+            collect_ratifier(start.stations),
+            reader,
+            listing,
+            at,
+        ),
     }
 }
 
@@ -126,7 +132,12 @@ fn begin<D: DecidingObject + Drop>(
 }
 
 // Carries out commands until one begins a pile or the run ends.
-fn serve<R: Responder>(responder: &mut R, reader: &mut Reader, listing: &mut [u8], at: usize) -> Served
+fn serve<R: Responder>(
+    responder: &mut R,
+    reader: &mut Reader,
+    listing: &mut [u8],
+    at: usize,
+) -> Served
     requires { ⌜ at ≤ length (now listing) ⌝ }
     ensures arrives { λ r. ⌜ (R·Responder .sound (R·Responder .state (now (responder .entry))) →
         Arrives (now (now (reader .entry) .schedule))

@@ -32,7 +32,7 @@ item b bs =
     (cond (eqb b 83) (with-operands step bs)
     (cond (eqb b 76) (with-operands stop bs) (broken UnknownLetter))))
 
--- how many bytes after its letter belong to an item
+-- how many bytes after its letter belong to an item; to a broken one, none
 abbrev pub tail : Item → ℕ
 tail (command k ops) = operands k
 tail (broken q) = 0

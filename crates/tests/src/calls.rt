@@ -3,8 +3,6 @@ use board::cell::CellBoardBoard;
 use collect::Collect;
 use collect::CollectProtocol;
 use deciding::record::Outcome;
-use deciding::record::OutcomeDebug;
-use deciding::record::OutcomePartialEq;
 use deciding::record::Record;
 use deciding::record::RecordDebug;
 use deciding::record::RecordPartialEq;
@@ -20,21 +18,63 @@ use trial::call::Call;
 use trial::call::CallDebug;
 use trial::rehearsal::rehearse;
 
-// A station that proposes 7 and is stopped after its first step, one that proposes 9, and calls that are refused.
-const CALLS: [Call; 13] = [
-    Call::Step { station: 1, coin: 0 },
-    Call::Enter { station: 1, mark: 7 },
-    Call::Enter { station: 1, mark: 8 },
-    Call::Step { station: 1, coin: 0 },
+// Station 1 proposes 7 and is stopped after its first step, station 0 proposes 9 and comes to its outcome, and calls are
+// refused in between.
+const CALLS: [Call; 15] = [
+    Call::Step {
+        station: 1,
+        coin: 0,
+    },
+    Call::Enter {
+        station: 1,
+        mark: 7,
+    },
+    Call::Enter {
+        station: 1,
+        mark: 8,
+    },
+    Call::Step {
+        station: 1,
+        coin: 0,
+    },
     Call::Stop { station: 1 },
-    Call::Step { station: 1, coin: 0 },
-    Call::Enter { station: 0, mark: 9 },
-    Call::Step { station: 0, coin: 0 },
-    Call::Step { station: 0, coin: 0 },
-    Call::Step { station: 0, coin: 0 },
-    Call::Step { station: 0, coin: 0 },
+    Call::Step {
+        station: 1,
+        coin: 0,
+    },
+    Call::Enter {
+        station: 0,
+        mark: 9,
+    },
+    Call::Step {
+        station: 0,
+        coin: 0,
+    },
+    Call::Step {
+        station: 0,
+        coin: 0,
+    },
+    Call::Step {
+        station: 0,
+        coin: 0,
+    },
+    Call::Step {
+        station: 0,
+        coin: 0,
+    },
+    Call::Step {
+        station: 0,
+        coin: 0,
+    },
+    Call::Step {
+        station: 0,
+        coin: 0,
+    },
     Call::Stop { station: 2 },
-    Call::Enter { station: 2, mark: 9 },
+    Call::Enter {
+        station: 2,
+        mark: 9,
+    },
 ];
 
 #[test]
@@ -44,13 +84,13 @@ fn a_list_of_calls(rt: LibcRuntime) -> Result<(), Fail> {
     for (call, answer) in CALLS.iter().zip(answers.iter()) {
         println!(rt, "{call:?} gives {answer:?}")?;
     }
-    check(answers.len() == 13)?;
+    check(answers.len() == 15)?;
     check_eq(answers[0], Answer::Refused(Refusal::NotEntered))?;
     check_eq(answers[1], Answer::Entered)?;
     check_eq(answers[2], Answer::Refused(Refusal::AlreadyEntered))?;
     check_eq(answers[4], Answer::Stopped)?;
     check_eq(answers[5], Answer::Refused(Refusal::Stopped))?;
-    check_eq(answers[11], Answer::Refused(Refusal::NoSuchStation))?;
+    check_eq(answers[13], Answer::Refused(Refusal::NoSuchStation))?;
     check_eq(
         trial.record(1),
         Record::UnderWay {
@@ -60,9 +100,10 @@ fn a_list_of_calls(rt: LibcRuntime) -> Result<(), Fail> {
     )?;
     check_eq(
         trial.record(0),
-        Record::UnderWay {
+        Record::Answered {
             proposal: 9,
-            steps: 4,
+            steps: 6,
+            outcome: Outcome::Adopt(9),
         },
     )
 }

@@ -52,7 +52,12 @@ fn a_command_wants_48_free_bytes() -> Result<(), Fail> {
 fn what_cannot_be_read_ends_the_run() -> Result<(), Fail> {
     lists(b"X", b"refused 3\n", 0, Some(Refusal::UnknownLetter))?;
     lists(b"E", b"refused 4\n", 0, Some(Refusal::OperandsMissing))?;
-    lists(b"L\x00N\x01\x01", b"refused 14\nrefused 4\n", 2, Some(Refusal::OperandsMissing))
+    lists(
+        b"L\x00N\x01\x01",
+        b"refused 14\nrefused 4\n",
+        2,
+        Some(Refusal::OperandsMissing),
+    )
 }
 
 #[test]

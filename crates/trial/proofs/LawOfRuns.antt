@@ -371,4 +371,3 @@ module _ (m : Machine) (d : Deciding m) (start : m .State) where
     in-range s c i o h =
         let (before, after, e) = among-comes (step s c gives stepped i o) events h in
         where-comes before (step s c) (stepped i o) (after, e) .1 .in-range s c i o refl
-
