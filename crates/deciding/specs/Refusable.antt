@@ -53,84 +53,75 @@ abbrev pub Refusable-reached : (m : Machine) → Deciding m → Refusable (m .St
 Refusable-reached m d x = x .refused ≡ None → Made m d (x .inner)
 
 module _ (m : Machine) (d : Deciding m) where
-  -- what a call of the station s owes
-  record Moves (s : ℕ) (p q : Refusable (m .State)) (r : Record) : Type 0 where
-    reached : Refusable-reached m d q
-    beside : Beside (refusable m) s p q
-    own : refusable m .record-of q s ≡ r
+  -- what a call of the station s leads to: p becomes q, and the record of s becomes r
+  pub record Changes (s : ℕ) (p q : Refusable (m .State)) (r : Record) : Type 0 where
+    pub reached : Refusable-reached m d q
+    pub beside : Beside (refusable m) s p q
+    pub own : refusable m .record-of q s ≡ r
 
-  moves : (x y : m .State) (s : ℕ) → Sizes (m .stations x) (m .limit x) (m .registers x) → d .Reached y → Beside m s x y → (r : Record) → m .record-of y s ≡ r →
-      Moves s (with-refusal x None) (with-refusal y None) r
-  moves x y s sizes reached b r own = record {
+  changes : (x y : m .State) (s : ℕ) → Sizes (m .stations x) (m .limit x) (m .registers x) → d .Reached y → Beside m s x y → (r : Record) → m .record-of y s ≡ r →
+      Changes s (with-refusal x None) (with-refusal y None) r
+  changes x y s sizes reached b r own = record {
     reached = λ _. record { reached = reached; sizes = rw (b .stations, b .limit, b .registers) sizes };
     beside = record { stations = b .stations; limit = b .limit; registers = b .registers; ratifying = b .ratifying; refused = refl; others = b .others };
     own = own;
   }
 
-  enters : (x : m .State) (q : Option Refusal) (s v : ℕ) → Refusable-reached m d (with-refusal x q) → Enters (refusable m) (with-refusal x q) s v →
-      Moves s (with-refusal x q) (refusable m .enter (with-refusal x q) s v) (UnderWay v 0)
-  enters x None s v r h =
+  pub enter-changes : (x : m .State) (q : Option Refusal) (s v : ℕ) → Refusable-reached m d (with-refusal x q) → Enters (refusable m) (with-refusal x q) s v →
+      Changes s (with-refusal x q) (refusable m .enter (with-refusal x q) s v) (UnderWay v 0)
+  enter-changes x None s v r h =
       let made = r refl in
       let g : Enters m x s v = record { below = h .below; away = h .away; small = h .small } in
-      moves x (m .enter x s v) s (made .sizes) (d .enter-reached x s v (made .reached) g) (d .enter-beside x s v (made .reached) g) (UnderWay v 0) (d .enter-own x s v (made .reached) g)
-  enters x (Some e) s v r h = absurd (omega (arith, h .below))
+      changes x (m .enter x s v) s (made .sizes) (d .enter-reached x s v (made .reached) g) (d .enter-beside x s v (made .reached) g) (UnderWay v 0) (d .enter-own x s v (made .reached) g)
+  enter-changes x (Some e) s v r h = absurd (omega (arith, h .below))
 
-  record Step-owes (p : Refusable (m .State)) (s v k : ℕ) (r : Step (Refusable (m .State))) : Type 0 where
-    moved : Moves s p (r .next) (stepped (UnderWay v k) (r .outcome))
-    below : r .operation .register < refusable m .registers p
+  pub record Step-owes (p : Refusable (m .State)) (s v k : ℕ) (r : Step (Refusable (m .State))) : Type 0 where
+    pub changes : Changes s p (r .next) (stepped (UnderWay v k) (r .outcome))
+    pub below : r .operation .register < refusable m .registers p
 
-  steps : (x : m .State) (q : Option Refusal) (s c v k : ℕ) → Refusable-reached m d (with-refusal x q) → Steps (refusable m) (with-refusal x q) s v k →
+  pub step-changes : (x : m .State) (q : Option Refusal) (s c v k : ℕ) → Refusable-reached m d (with-refusal x q) → Steps (refusable m) (with-refusal x q) s v k →
       Step-owes (with-refusal x q) s v k (refusable m .step (with-refusal x q) s c)
-  steps x None s c v k r h =
+  step-changes x None s c v k r h =
       let made = r refl in
       let g : Steps m x s v k = record { below = h .below; under-way = h .under-way } in
       record {
-        moved = moves x (m .step x s c .next) s (made .sizes) (d .step-reached x s c v k (made .reached) g) (d .step-beside x s c v k (made .reached) g)
+        changes = changes x (m .step x s c .next) s (made .sizes) (d .step-reached x s c v k (made .reached) g) (d .step-beside x s c v k (made .reached) g)
             (stepped (UnderWay v k) (m .step x s c .outcome)) (d .step-own x s c v k (made .reached) g);
         below = d .step-below x s c v k (made .reached) g;
       }
-  steps x (Some e) s c v k r h = absurd (omega (arith, h .below))
+  step-changes x (Some e) s c v k r h = absurd (omega (arith, h .below))
 
-  away : (x : m .State) (q : Option Refusal) (s : ℕ) → Refusable-reached m d (with-refusal x q) → if-made q (m .stations x) 0 ≤ s → if-made q (m .record-of x s) Away ≡ Away
-  away x None s r h = d .away x s (r refl .reached) h
-  away x (Some e) s r h = refl
+  pub refusable-away : (x : m .State) (q : Option Refusal) (s : ℕ) → Refusable-reached m d (with-refusal x q) → if-made q (m .stations x) 0 ≤ s → if-made q (m .record-of x s) Away ≡ Away
+  refusable-away x None s r h = d .away x s (r refl .reached) h
+  refusable-away x (Some e) s r h = refl
 
-  sized : (x : m .State) (q : Option Refusal) → Refusable-reached m d (with-refusal x q) →
+  pub refusable-sized : (x : m .State) (q : Option Refusal) → Refusable-reached m d (with-refusal x q) →
       Sized q (if-made q (m .stations x) 0) (if-made q (m .limit x) 0) (if-made q (m .registers x) 0) (if-made q (m .ratifying x) false)
-  sized x None r = record { made = λ _. r refl .sizes; unmade = λ e h. let z : _≡_ {A = ℕ} 0 1 = cc in absurd (omega arith) }
-  sized x (Some e) r = record {
+  refusable-sized x None r = record { made = λ _. r refl .sizes; unmade = λ e h. let z : _≡_ {A = ℕ} 0 1 = cc in absurd (omega arith) }
+  refusable-sized x (Some e) r = record {
     made = λ h. let z : _≡_ {A = ℕ} 0 1 = cc in absurd (omega arith);
     unmade = λ _ _. record { no-stations = refl; no-steps = refl; no-registers = refl; not-ratifying = refl };
   }
 
-  laws : (x : m .State) (q : Option Refusal) → Refusable-reached m d (with-refusal x q) →
+  pub refusable-laws : (x : m .State) (q : Option Refusal) → Refusable-reached m d (with-refusal x q) →
       Laws (if-made q (m .limit x) 0) (if-made q (m .ratifying x) false) (λ s. if-made q (m .record-of x s) Away)
-  laws x None r = d .laws x (r refl .reached)
-  laws x (Some e) r = away-laws false
+  refusable-laws x None r = d .laws x (r refl .reached)
+  refusable-laws x (Some e) r = away-laws false
 
-  pub refusable-deciding : Deciding (refusable m)
+  abbrev pub refusable-deciding : Deciding (refusable m)
   refusable-deciding = record {
     Reached = Refusable-reached m d;
-    enter-reached = λ p s v r h. enters (p .inner) (p .refused) s v r h .reached;
-    enter-beside = λ p s v r h. enters (p .inner) (p .refused) s v r h .beside;
-    enter-own = λ p s v r h. enters (p .inner) (p .refused) s v r h .own;
-    step-reached = λ p s c v k r h. steps (p .inner) (p .refused) s c v k r h .moved .reached;
-    step-beside = λ p s c v k r h. steps (p .inner) (p .refused) s c v k r h .moved .beside;
-    step-own = λ p s c v k r h. steps (p .inner) (p .refused) s c v k r h .moved .own;
-    step-below = λ p s c v k r h. steps (p .inner) (p .refused) s c v k r h .below;
-    away = λ p s r h. away (p .inner) (p .refused) s r h;
-    sized = λ p r. sized (p .inner) (p .refused) r;
-    laws = λ p r. laws (p .inner) (p .refused) r;
+    enter-reached = λ p s v r h. enter-changes (p .inner) (p .refused) s v r h .reached;
+    enter-beside = λ p s v r h. enter-changes (p .inner) (p .refused) s v r h .beside;
+    enter-own = λ p s v r h. enter-changes (p .inner) (p .refused) s v r h .own;
+    step-reached = λ p s c v k r h. step-changes (p .inner) (p .refused) s c v k r h .changes .reached;
+    step-beside = λ p s c v k r h. step-changes (p .inner) (p .refused) s c v k r h .changes .beside;
+    step-own = λ p s c v k r h. step-changes (p .inner) (p .refused) s c v k r h .changes .own;
+    step-below = λ p s c v k r h. step-changes (p .inner) (p .refused) s c v k r h .below;
+    away = λ p s r h. refusable-away (p .inner) (p .refused) s r h;
+    sized = λ p r. refusable-sized (p .inner) (p .refused) r;
+    laws = λ p r. refusable-laws (p .inner) (p .refused) r;
   }
-
-  -- what it says of an object that it is reached
-  pub is-made : (x : Refusable (m .State)) → refusable-deciding .Reached x → x .refused ≡ None → Made m d (x .inner)
-  unfolding refusable-deciding
-  is-made x reached = reached
-
-  pub is-reached : (x : Refusable (m .State)) → (x .refused ≡ None → Made m d (x .inner)) → refusable-deciding .Reached x
-  unfolding refusable-deciding
-  is-reached x made = made
 
   -- an object with at least one station was not refused
   pub sizes-where-made : (x : m .State) → d .Reached x → one-to-sixteen (m .stations x) ≡ true → Sizes (m .stations x) (m .limit x) (m .registers x)

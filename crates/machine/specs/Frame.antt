@@ -21,7 +21,7 @@ use Rattle.deciding.specs.Laws.{Laws, stepped}
 use Rattle.deciding.specs.Machine.{Machine, Step, Beside, Enters, Steps}
 use Rattle.deciding.specs.Sizes.{Sizes, one-to-sixteen}
 use Rattle.deciding.specs.Deciding.{Deciding}
-use Rattle.deciding.specs.Refusable.{with-refusal, refusable, refusable-deciding, is-made, is-reached}
+use Rattle.deciding.specs.Refusable.{with-refusal, refusable, refusable-deciding}
 use Rattle.machine.specs.declared.status.Status.{Status}
 use Rattle.machine.specs.declared.status.Status.the-variants.{Absent, Running, Done}
 use Rattle.machine.specs.declared.status.Turn.{Turn}
@@ -155,7 +155,7 @@ module _ {Setup Phase : Type 0} (p : Protocol Setup Phase) {Meets : Phase → �
   -- what is reached, and was not refused
   pub reached-good : (x : Running′ Setup Phase) (q : Option Refusal) → kept-deciding .Reached (with-refusal x q) → q ≡ None → Good p kept x
   unfolding kept-deciding running-deciding
-  reached-good x q reached none = is-made (machine-of p) running-deciding (with-refusal x q) reached none .reached
+  reached-good x q reached none = reached none .reached
 
 -- THE MAKING
 all-asked : (a b c : Bool) (q : Option Refusal) →
@@ -188,6 +188,6 @@ module _ {Setup Phase : Type 0} (p : Protocol Setup Phase) {Meets : Phase → �
   -- every making begins an object that is reached
   pub made-reached : kept-deciding p kept .Reached (made p u xs)
   unfolding kept-deciding running-deciding
-  made-reached = is-reached (machine-of p) (running-deciding p kept) (made p u xs) (λ none.
+  made-reached none =
       let good = fresh-good none in
-      record { reached = good; sizes = both-within _ _ _ (good .some) (good .fitting .few) (kept .within u (good .some) (good .fitting .few)) })
+      record { reached = good; sizes = both-within _ _ _ (good .some) (good .fitting .few) (kept .within u (good .some) (good .fitting .few)) }

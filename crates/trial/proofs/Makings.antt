@@ -15,7 +15,7 @@ use Rattle.deciding.specs.Deciding.{Deciding}
 use Rattle.deciding.specs.Questions.{all-are-away}
 use Rattle.deciding.specs.Refusable.{refusable, Refusable-reached, with-refusal, if-made, sizes-where-made}
 use mathlib.Core.List.{List}
-use Rattle.deciding.specs.Refusable.{refusable-deciding, is-reached}
+use Rattle.deciding.specs.Refusable.{refusable-deciding}
 use Rattle.trial.specs.declared.call.Call.{Call}
 use Rattle.trial.specs.Perform.{All-small, trial-refusal}
 use Rattle.trial.specs.Trials.{Lawful-trial}
@@ -48,4 +48,4 @@ module _ (m : Machine) (d : Deciding m) (x : m .State) (reached : d .Reached x) 
   pub lawful-trial : (calls : List Call) → All-small calls → Lawful-trial m x calls
   lawful-trial calls small =
       lawful (refusable m) (refusable-deciding m d) (with-refusal x (trial-refusal m x))
-      (is-reached m d (with-refusal x (trial-refusal m x)) (trial-reached (trial-refusal m x) refl)) (trial-away (trial-refusal m x) refl) calls small
+      (trial-reached (trial-refusal m x) refl) (trial-away (trial-refusal m x) refl) calls small

@@ -1,6 +1,6 @@
 use native.Mathlib.Omega.{arith}
 use Rattle.std.specs.Of.Vec.{vec-items}
-use Rattle.deciding.specs.Refusable.{refusable-deciding, is-made, is-reached}
+use Rattle.deciding.specs.Refusable.{refusable-deciding}
 use Rattle.trial.specs.Trials.{tried, whole}
 use Rattle.trial.proofs.Rehearsing.{so-none, so-more, given-answers, given-last, given-each, given-obeys}
 use Rattle.trial.proofs.rehearsal.rehearse.Needs as need
@@ -13,7 +13,7 @@ loop-call-holds g c =
       new .1 .1,
       λ reached.
           rw (new .0)
-          (so-none (whole D) (refusable-deciding (D .machine) (D .deciding)) (tried D (c .args .trial .now)) (c .args .calls .now) (is-reached (D .machine) (D .deciding) _ reached)),
+          (so-none (whole D) (refusable-deciding (D .machine) (D .deciding)) (tried D (c .args .trial .now)) (c .args .calls .now) reached),
     )
 
 pub loop-call-again : need.loop-call-again
@@ -28,7 +28,7 @@ loop-call-again g c =
           let so = inv .2 reached in
           rw (pushed .items)
           (so-more (whole D) d (tried D (c .args .trial .now)) (c .args .calls .now) (c .loop-call .call-index) (vec-items (c .loop-call .answers)) (tried D (c .loop-call .trial)) _
-          (c .perform .result) (tried D (c .perform .last .self)) (c .loop-call-test .taken) so (c .perform .ensures (is-made (D .machine) (D .deciding) _ (so .reached)))),
+          (c .perform .result) (tried D (c .perform .last .self)) (c .loop-call-test .taken) so (c .perform .ensures (so .reached))),
     )
 
 pub returns : need.returns
@@ -46,6 +46,6 @@ returns g c =
       runs = λ reached. let so = c .loop-call .inv .2 reached in record { answers = given-answers m d x calls i given y all so; last = given-last m d x calls i given y all so };
       law = λ begun.
           let so = c .loop-call .inv .2 (begun .reached) in
-          let obeys = given-obeys m d x calls i given y all so (is-reached (D .machine) (D .deciding) (x .object) (begun .reached)) (begun .away) (begun .stopped) in
+          let obeys = given-obeys m d x calls i given y all so (begun .reached) (begun .away) (begun .stopped) in
           record { each = given-each m d x calls i given y all so; lawful = obeys .law; in-range = obeys .range };
     }

@@ -1,5 +1,5 @@
 use mathlib.Core.Path.{sym, subst}
-use Rattle.deciding.specs.Refusable.{Refusable, refusable-deciding, Refusable-reached, is-made, is-reached}
+use Rattle.deciding.specs.Refusable.{Refusable, refusable-deciding, Refusable-reached}
 use Rattle.trial.specs.Perform.{Trial-state}
 use Rattle.trial.specs.Trials.{tried, whole}
 use Rattle.trial.proofs.Performing.{perform-reached}
@@ -15,5 +15,5 @@ returns g c = λ reached.
       p .answer,
       p .next,
       subst (λ (y : Trial-state (Refusable (m .State))). Refusable-reached m d (y .object)) (sym (p .next))
-          (is-made m d _ (perform-reached (whole D) (refusable-deciding m d) x (is-reached m d (x .object) reached) (c .args .call) (p .small))),
+          (perform-reached (whole D) (refusable-deciding m d) x reached (c .args .call) (p .small)),
     )

@@ -1,0 +1,5 @@
+pub mod Joint
+pub mod JointDeciding
+pub mod JointLaws
+pub mod Making
+pub mod States
