@@ -3,3 +3,4 @@ pub mod Kept
 pub mod Making
 pub mod Protocol
 pub mod Rows
+pub mod Stations

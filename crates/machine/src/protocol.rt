@@ -53,6 +53,8 @@ pub trait Protocol {
         content: u16,
         coin: u8,
     ) -> Option<Outcome>
-        ensures outcome { λ r. ⌜ (station < rules .stations (now (self .entry)) → meets (now (phase .entry)) content → r ≡ outcome-of (rules .turn (now (self .entry)) station proposal (now (phase .entry)) content coin)) ⌝ }
-        ensures next { λ _. ⌜ (station < rules .stations (now (self .entry)) → meets (now (phase .entry)) content → now (phase .exit) ≡ phase-after (now (phase .entry)) (rules .turn (now (self .entry)) station proposal (now (phase .entry)) content coin)) ⌝ };
+        ensures outcome { λ r. ⌜ (station < rules .stations (now (self .entry)) → meets (now (phase .entry)) content →
+            r ≡ outcome-of (rules .turn (now (self .entry)) station proposal (now (phase .entry)) content coin)) ⌝ }
+        ensures next { λ _. ⌜ (station < rules .stations (now (self .entry)) → meets (now (phase .entry)) content →
+            now (phase .exit) ≡ phase-after (now (phase .entry)) (rules .turn (now (self .entry)) station proposal (now (phase .entry)) content coin)) ⌝ };
 }

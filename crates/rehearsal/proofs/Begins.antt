@@ -10,14 +10,15 @@ use Rattle.listing.specs.declared.line.Line.the-variants as line
 use Rattle.listing.specs.Over.{over}
 use Rattle.listing.specs.Lines.{text}
 use Rattle.schedule.specs.declared.pile.Pile.{Pile}
-use Rattle.schedule.specs.declared.pile.Pile.the-variants as name
 use Rattle.schedule.specs.Script.{Item, script}
 use Rattle.trial.specs.Perform.{Trial-state}
 use Rattle.trial.specs.Trials.{new-trial}
 use Rattle.rehearsal.specs.declared.verdict.Start.{Start}
 use Rattle.rehearsal.specs.declared.verdict.Served.{Served}
 use Rattle.rehearsal.specs.Lines.{pile-line}
-use Rattle.rehearsal.specs.Piles.{Built, built, collect-pile}
+use Rattle.sequence.specs.Joint.{Pair}
+use Rattle.sequence.specs.Making.{sequence-made}
+use Rattle.rehearsal.specs.Piles.{Built, built, in-sequence}
 use Rattle.rehearsal.specs.Responders.{trial-in}
 use Rattle.rehearsal.specs.Runs.{pile-begun}
 use Rattle.rehearsal.specs.Serving.{Final, finish, went, started, renewed, Arrives}
@@ -48,7 +49,14 @@ pile-arrives bs u p bytes w r q after d x asked is arrives =
     (ap (λ y. started (u .pile) (d .machine) y (script (drop p bs)) p bytes w) is ∙ sym (ap came asked))
     (arrives (subst (d .deciding .Reached) (sym is) (d .reached)))
 
+-- the state of a sequence of two piles just made
+pub sequence-start : (a b : Built) (x : a .machine .State) (y : b .machine .State) (z : Refusable (Pair (a .machine .State) (b .machine .State))) →
+    x ≡ a .start → y ≡ b .start → (a .deciding .Reached x × b .deciding .Reached y → z ≡ sequence-made (a .machine) (b .machine) x y) → z ≡ in-sequence a b .start
+sequence-start a b x y z is-x is-y is-z =
+    is-z (subst (a .deciding .Reached) (sym is-x) (a .reached), subst (b .deciding .Reached) (sym is-y) (b .reached))
+    ∙ ap (λ v. sequence-made (a .machine) (b .machine) v y) is-x
+    ∙ ap (λ v. sequence-made (a .machine) (b .machine) (a .start) v) is-y
+
 -- which pile is asked for
-pub collect-asked : (p : Pile) (n leader : ℕ) → built p n leader ≡ collect-pile n
-unfolding built
-collect-asked name.Collect n leader = refl
+pub named : (p q : Pile) (n leader : ℕ) → p ≡ q → built p n leader ≡ built q n leader
+named p q n leader e = ap (λ (k : Pile). built k n leader) e

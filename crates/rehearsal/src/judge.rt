@@ -15,7 +15,7 @@ use schedule::reader::Reader;
 use trial::call::Call;
 
 // Reads the next command and asks of it what can be asked before a trial is: `room` is how many listing bytes are free.
-pub fn judge(reader: &mut Reader, room: usize) -> Verdict
+pub(super) fn judge(reader: &mut Reader, room: usize) -> Verdict
     ensures judges { λ r. ⌜ Judges (now (now (reader .entry) .schedule)) (now (reader .entry) .position) room r (now (reader .exit) .position) ⌝ }
     ensures same { λ r. ⌜ now (reader .exit) .schedule ≡ now (reader .entry) .schedule ⌝ }
     ensures moves { λ r. ⌜ Moves (length (now (now (reader .entry) .schedule))) room (now (reader .entry) .position) r (now (reader .exit) .position) ⌝ }

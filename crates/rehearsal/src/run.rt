@@ -12,7 +12,11 @@ ghost use Rattle.rehearsal.specs.Responders.{in-state};
 ghost use Rattle.rehearsal.specs.Runs.{run-of};
 ghost use Rattle.rehearsal.specs.Serving.{finish, started, renewed, Arrives, Waits};
 use super::judge::judge;
+use super::piles::bit_pairs_ratifier;
+use super::piles::coin_conciliator;
 use super::piles::collect_ratifier;
+use super::piles::half_sets_ratifier;
+use super::piles::leader_conciliator;
 use super::responder::NoTrial;
 use super::responder::NoTrialResponder;
 use super::responder::Responder;
@@ -20,15 +24,28 @@ use super::responder::TrialResponder;
 use super::verdict::Served;
 use super::verdict::Start;
 use super::verdict::Verdict;
+use board::card::CardBoard;
+use board::card::CardBoardBoard;
 use board::cell::CellBoardBoard;
 use collect::CollectProtocol;
+use conciliators::coin::CoinProtocol;
+use conciliators::leader::LeaderProtocol;
 use deciding::object::DecidingObject;
 use listing::line::Line;
 use listing::put;
+use machine::machine::StepMachine;
 use machine::machine::StepMachineObject;
+use quorum::Quorum;
+use quorum::QuorumProtocol;
 use refusal::Refusal;
 use schedule::pile::Pile;
 use schedule::reader::Reader;
+use sequence::Sequence;
+use sequence::object::SequenceObject;
+use std::marker::PhantomData;
+use tables::bit_pairs::BitPairs;
+use tables::bit_pairs::BitPairsTable;
+use tables::half_sets::HalfSetsTable;
 use trial::Trial;
 use trial::call::Answer;
 use trial::call::Call;
@@ -52,7 +69,8 @@ pub struct Ran {
 // which passes its questions has its trial, and `lawful` is the promise about every trial of every pile, whatever
 // calls are put to it.
 pub fn run(schedule: &[u8], listing: &mut [u8]) -> Ran
-    ensures bytes { λ _. ⌜ now (listing .exit) ≡ listed (run-of (now (schedule .entry)) (length (now (listing .entry))) .lines) ++ drop (length (listed (run-of (now (schedule .entry)) (length (now (listing .entry))) .lines))) (now (listing .entry)) ⌝ }
+    ensures bytes { λ _. ⌜ now (listing .exit) ≡ listed (run-of (now (schedule .entry)) (length (now (listing .entry))) .lines)
+        ++ drop (length (listed (run-of (now (schedule .entry)) (length (now (listing .entry))) .lines))) (now (listing .entry)) ⌝ }
     ensures consumed { λ r. ⌜ r .consumed ≡ run-of (now (schedule .entry)) (length (now (listing .entry))) .consumed ⌝ }
     ensures written { λ r. ⌜ r .written ≡ length (listed (run-of (now (schedule .entry)) (length (now (listing .entry))) .lines)) ⌝ }
     ensures ended { λ r. ⌜ r .ended ≡ run-of (now (schedule .entry)) (length (now (listing .entry))) .ended ⌝ }
@@ -92,14 +110,53 @@ fn renew(start: Start, reader: &mut Reader, listing: &mut [u8], at: usize) -> Se
     ensures same { λ _. ⌜ now (reader .exit) .schedule ≡ now (reader .entry) .schedule ⌝ }
     ensures waits { λ r. ⌜ Waits (length (now (now (reader .entry) .schedule))) (now (reader .entry) .position) r (now (reader .exit) .position) (now (listing .exit)) ⌝ }
 {
-    match start.pile {
-        Pile::Collect => begin(
-            start.pile,
-            collect_ratifier(start.stations),
-            reader,
-            listing,
-            at,
-        ),
+    let Start {
+        pile,
+        stations,
+        leader,
+    } = start;
+    match pile {
+        Pile::Collect => {
+            let object = collect_ratifier(stations);
+            begin(pile, object, reader, listing, at)
+        }
+        Pile::Quorum => {
+            // One register more than the pool of the bit pairs has, two bytes each.
+            let mut card = [0u8; 34];
+            let object = StepMachine::new(
+                Quorum::<BitPairs> {
+                    stations,
+                    table: PhantomData,
+                },
+                CardBoard::new(&mut card),
+            );
+            begin(pile, object, reader, listing, at)
+        }
+        Pile::CoinCollect => {
+            let object = Sequence::new(coin_conciliator(stations), collect_ratifier(stations));
+            begin(pile, object, reader, listing, at)
+        }
+        Pile::LeaderQuorum => {
+            let object = Sequence::new(
+                leader_conciliator(stations, leader),
+                half_sets_ratifier(stations),
+            );
+            begin(pile, object, reader, listing, at)
+        }
+        Pile::CollectCoinQuorum => {
+            let back = Sequence::new(coin_conciliator(stations), bit_pairs_ratifier(stations));
+            let object = Sequence::new(collect_ratifier(stations), back);
+            begin(pile, object, reader, listing, at)
+        }
+        Pile::QuorumLeaderCoinCollect => {
+            let front = Sequence::new(
+                half_sets_ratifier(stations),
+                leader_conciliator(stations, leader),
+            );
+            let back = Sequence::new(coin_conciliator(stations), collect_ratifier(stations));
+            let object = Sequence::new(front, back);
+            begin(pile, object, reader, listing, at)
+        }
     }
 }
 

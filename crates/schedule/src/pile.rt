@@ -4,9 +4,15 @@ use refusal::Refusal;
 
 // A pile is what the laboratory puts to a trial: one deciding machine, or several that a station goes through one after
 // another, together with the boards of registers that they work on. A schedule asks for a pile by its number.
+// The cases are named by the machines, in the order in which a station meets them.
 #[derive(Clone, Copy, PartialEq, Eq, Debug)]
 pub enum Pile {
     Collect = 1,
+    Quorum = 2,
+    CoinCollect = 3,
+    LeaderQuorum = 4,
+    CollectCoinQuorum = 5,
+    QuorumLeaderCoinCollect = 6,
 }
 
 impl Pile {
@@ -23,6 +29,11 @@ impl Pile {
     {
         match number {
             1 => Ok(Pile::Collect),
+            2 => Ok(Pile::Quorum),
+            3 => Ok(Pile::CoinCollect),
+            4 => Ok(Pile::LeaderQuorum),
+            5 => Ok(Pile::CollectCoinQuorum),
+            6 => Ok(Pile::QuorumLeaderCoinCollect),
             _ => Err(Refusal::UnknownPile),
         }
     }

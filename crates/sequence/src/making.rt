@@ -20,7 +20,8 @@ fn fits(a: u16, b: u16) -> bool
 
 // The first question of a making that is answered no.
 fn first_refusal<X: DecidingObject, Y: DecidingObject>(first: &X, second: &Y) -> Option<Refusal>
-    ensures { λ r. ⌜ (Both-reached X·DecidingObject Y·DecidingObject (now (first .entry)) (now (second .entry)) → r ≡ sequence-refusal (X·DecidingObject .machine) (Y·DecidingObject .machine) (X·DecidingObject .state (now (first .entry))) (Y·DecidingObject .state (now (second .entry)))) ⌝ }
+    ensures { λ r. ⌜ (Both-reached X·DecidingObject Y·DecidingObject (now (first .entry)) (now (second .entry)) →
+        r ≡ sequence-refusal (X·DecidingObject .machine) (Y·DecidingObject .machine) (X·DecidingObject .state (now (first .entry))) (Y·DecidingObject .state (now (second .entry)))) ⌝ }
 {
     if !(one_to_sixteen(first.stations()) && one_to_sixteen(second.stations())) {
         return Some(Refusal::StationCount);

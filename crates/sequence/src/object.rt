@@ -8,10 +8,7 @@ use deciding::record::Outcome;
 use deciding::record::Record;
 use refusal::Refusal;
 
-pub impl<X: DecidingObject, Y: DecidingObject> DecidingObject for Sequence<
-    X,
-    Y,
-> as SequenceObject {
+pub impl<X: DecidingObject, Y: DecidingObject> DecidingObject for Sequence<X, Y> as SequenceObject {
     ghost machine = { both X·DecidingObject Y·DecidingObject .machine };
 
     ghost deciding = { both X·DecidingObject Y·DecidingObject .deciding };

@@ -12,7 +12,7 @@ use deciding::record::Record;
 use refusal::Refusal;
 
 // Did the station come out of the first part with a mark to go on with?
-pub fn goes_on(known: Record) -> bool
+pub(super) fn goes_on(known: Record) -> bool
     ensures { λ r. ⌜ r ≡ goes-on known ⌝ }
 {
     match known {
@@ -25,7 +25,7 @@ pub fn goes_on(known: Record) -> bool
 }
 
 // What a station's two records come to.
-pub fn join(first: Record, second: Record) -> Record
+pub(super) fn join(first: Record, second: Record) -> Record
     ensures { λ r. ⌜ (Steps-fit first second → r ≡ joined first second) ⌝ }
 {
     match first {
@@ -65,12 +65,15 @@ fn shifted(operation: Operation, by: u16) -> Operation
 
 impl<X: DecidingObject, Y: DecidingObject> Sequence<X, Y> {
     // A step of a station that has no mark to go on with. If the first part now gives it one, it enters the second with it.
-    pub fn step_first(
+    pub(super) fn step_first(
         &mut self,
         station: u8,
         coin: u8,
     ) -> Result<(Operation, Option<Outcome>), Refusal>
-        ensures { λ r. ⌜ (Standing X·DecidingObject Y·DecidingObject (now (self .entry)) → goes-on (X·DecidingObject .machine .record-of (X·DecidingObject .state (now (self .entry) .first)) station) ≡ false → Stepping (sequence-of X·DecidingObject Y·DecidingObject) (state-of X·DecidingObject Y·DecidingObject (now (self .entry))) station coin r (state-of X·DecidingObject Y·DecidingObject (now (self .exit)))) ⌝ }
+        ensures { λ r. ⌜ (Standing X·DecidingObject Y·DecidingObject (now (self .entry)) →
+            goes-on (X·DecidingObject .machine .record-of (X·DecidingObject .state (now (self .entry) .first)) station) ≡ false →
+            Stepping (sequence-of X·DecidingObject Y·DecidingObject) (state-of X·DecidingObject Y·DecidingObject (now (self .entry))) station coin r
+            (state-of X·DecidingObject Y·DecidingObject (now (self .exit)))) ⌝ }
     {
         let (operation, outcome) = self.first.step(station, coin)?;
         match outcome {
@@ -84,12 +87,15 @@ impl<X: DecidingObject, Y: DecidingObject> Sequence<X, Y> {
     }
 
     // A step of a station that came out of the first part with a mark.
-    pub fn step_second(
+    pub(super) fn step_second(
         &mut self,
         station: u8,
         coin: u8,
     ) -> Result<(Operation, Option<Outcome>), Refusal>
-        ensures { λ r. ⌜ (Standing X·DecidingObject Y·DecidingObject (now (self .entry)) → goes-on (X·DecidingObject .machine .record-of (X·DecidingObject .state (now (self .entry) .first)) station) ≡ true → Stepping (sequence-of X·DecidingObject Y·DecidingObject) (state-of X·DecidingObject Y·DecidingObject (now (self .entry))) station coin r (state-of X·DecidingObject Y·DecidingObject (now (self .exit)))) ⌝ }
+        ensures { λ r. ⌜ (Standing X·DecidingObject Y·DecidingObject (now (self .entry)) →
+            goes-on (X·DecidingObject .machine .record-of (X·DecidingObject .state (now (self .entry) .first)) station) ≡ true →
+            Stepping (sequence-of X·DecidingObject Y·DecidingObject) (state-of X·DecidingObject Y·DecidingObject (now (self .entry))) station coin r
+            (state-of X·DecidingObject Y·DecidingObject (now (self .exit)))) ⌝ }
     {
         let (operation, outcome) = self.second.step(station, coin)?;
         Ok((shifted(operation, self.first.registers()), outcome))

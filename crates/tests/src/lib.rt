@@ -4,3 +4,5 @@
 mod calls;
 #[cfg(test)]
 mod runs;
+#[cfg(test)]
+mod sequences;

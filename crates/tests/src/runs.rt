@@ -84,8 +84,10 @@ fn a_refused_n_leaves_the_trial() -> Result<(), Fail> {
 #[test]
 fn one_commits_and_the_other_adopts_its_mark() -> Result<(), Fail> {
     lists(
-        b"N\x01\x02\x00E\x00\x04E\x01\x09S\x00\x00S\x00\x00S\x00\x00S\x01\x00S\x00\x00S\x01\x00S\x01\x00S\x00\x00S\x00\x00S\x01\x00S\x01\x00S\x01\x00",
-        b"pile 1 stations 2 limit 6 registers 4\nenter 0 mark 4\nenter 1 mark 9\nstep 0 write 0 5\nstep 0 read 0 5\nstep 0 read 1 0\nstep 1 write 1 10\nstep 0 write 2 10\nstep 1 read 0 5\nstep 1 read 1 10\nstep 0 read 2 10\nstep 0 read 3 0 commit 4\nstep 1 write 3 19\nstep 1 read 2 10\nstep 1 read 3 19 adopt 4\n",
+        b"N\x01\x02\x00E\x00\x04E\x01\x09S\x00\x00S\x00\x00S\x00\x00S\x01\x00S\x00\x00S\x01\x00S\x01\x00\
+          S\x00\x00S\x00\x00S\x01\x00S\x01\x00S\x01\x00",
+        b"pile 1 stations 2 limit 6 registers 4\nenter 0 mark 4\nenter 1 mark 9\nstep 0 write 0 5\nstep 0 read 0 5\nstep 0 read 1 0\nstep 1 write 1 10\nstep 0 write 2 10\n\
+          step 1 read 0 5\nstep 1 read 1 10\nstep 0 read 2 10\nstep 0 read 3 0 commit 4\nstep 1 write 3 19\nstep 1 read 2 10\nstep 1 read 3 19 adopt 4\n",
         46,
         None,
     )

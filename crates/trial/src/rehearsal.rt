@@ -19,8 +19,12 @@ pub fn rehearse<D: DecidingObject>(
     calls: &[Call],
     heap: Global,
 ) -> Result<Vec<Answer>, AllocError>
-    ensures runs { λ r. ⌜ (Reached D·DecidingObject (now (trial .entry)) → Cases r (λ answers. Runs D·DecidingObject (now (trial .entry)) (now (calls .entry)) (vec-items answers) (now (trial .exit))) (λ _. tried D·DecidingObject (now (trial .exit)) ≡ tried D·DecidingObject (now (trial .entry)))) ⌝ }
-    ensures law { λ r. ⌜ (Begun D·DecidingObject (now (trial .entry)) → Cases r (λ answers. Rehearsed D·DecidingObject (now (trial .entry)) (now (calls .entry)) (vec-items answers) (now (trial .exit))) (λ _. Begun D·DecidingObject (now (trial .exit)))) ⌝ }
+    ensures runs { λ r. ⌜ (Reached D·DecidingObject (now (trial .entry)) → Cases r
+        (λ answers. Runs D·DecidingObject (now (trial .entry)) (now (calls .entry)) (vec-items answers) (now (trial .exit)))
+        (λ _. tried D·DecidingObject (now (trial .exit)) ≡ tried D·DecidingObject (now (trial .entry)))) ⌝ }
+    ensures law { λ r. ⌜ (Begun D·DecidingObject (now (trial .entry)) → Cases r
+        (λ answers. Rehearsed D·DecidingObject (now (trial .entry)) (now (calls .entry)) (vec-items answers) (now (trial .exit)))
+        (λ _. Begun D·DecidingObject (now (trial .exit)))) ⌝ }
 {
     let mut answers = Vec::with_capacity(heap, calls.len())?;
     for call in calls {

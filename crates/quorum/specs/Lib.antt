@@ -1,0 +1,5 @@
+pub mod Examples
+pub mod Invariant
+pub mod Kept
+pub mod Ratifier
+pub mod Steps

@@ -1,0 +1,9 @@
+pub mod BitPairs
+pub mod BitPairsLawful
+pub mod Bits
+pub mod Examples
+pub mod HalfSets
+pub mod HalfSetsLawful
+pub mod Picked
+pub mod Sizes
+pub mod Table
