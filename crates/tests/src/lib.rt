@@ -3,6 +3,8 @@
 #[cfg(test)]
 mod calls;
 #[cfg(test)]
+mod piles;
+#[cfg(test)]
 mod runs;
 #[cfg(test)]
 mod sequences;

@@ -63,7 +63,7 @@ fn what_cannot_be_read_ends_the_run() -> Result<(), Fail> {
 #[test]
 fn sixteen_stations_at_most() -> Result<(), Fail> {
     lists(
-        b"N\x01\x10\x0fN\x01\x11\x00N\x01\x00\x00N\x01\x02\x02N\x02\x01\x00",
+        b"N\x01\x10\x0fN\x01\x11\x00N\x01\x00\x00N\x01\x02\x02N\x07\x01\x00",
         b"pile 1 stations 16 limit 34 registers 32\nrefused 6\nrefused 6\nrefused 7\nrefused 5\n",
         20,
         None,
