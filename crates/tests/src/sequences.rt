@@ -11,6 +11,8 @@ use refusal::RefusalPartialEq;
 use sequence::Sequence;
 use sequence::object::SequenceObject;
 use std::test::*;
+use waiting::Waiting;
+use waiting::WaitingProtocol;
 
 type CollectPart = StepMachine<Collect, CellBoard>;
 
@@ -33,4 +35,24 @@ fn all_records_of_the_parts_are_away() -> Result<(), Fail> {
     check(used.enter(1, 7).is_ok())?;
     let joined = Sequence::new(collect_part(2), used);
     check_eq(joined.refused(), Some(Refusal::NotAllAway))
+}
+
+fn waiting_part(limit: u16) -> StepMachine<Waiting, CellBoard> {
+    StepMachine::new(
+        Waiting {
+            stations: 1,
+            more: limit.saturating_sub(1),
+        },
+        CellBoard::new(),
+    )
+}
+
+#[test]
+fn a_joined_limit_of_1000_passes() -> Result<(), Fail> {
+    let edge = Sequence::new(waiting_part(500), waiting_part(500));
+    check_eq(edge.refused(), None)?;
+    check_eq(edge.limit(), 1000)?;
+    let past = Sequence::new(waiting_part(500), waiting_part(501));
+    check_eq(past.refused(), Some(Refusal::TooLarge))?;
+    check_eq(past.limit(), 0)
 }
