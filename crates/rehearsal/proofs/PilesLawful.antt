@@ -1,6 +1,14 @@
--- The law of runs, of every pile.
+-- The law of runs, of every pile and of everything that a pile can be made of.
+use mathlib.Core.List.{List}
+use Rattle.trial.specs.declared.call.Call.{Call}
+use Rattle.trial.specs.Perform.{All-small}
+use Rattle.trial.specs.Trials.{Lawful-trial}
 use Rattle.trial.proofs.Makings.{lawful-trial}
-use Rattle.rehearsal.specs.Piles.{built, Piles-lawful}
+use Rattle.rehearsal.specs.Agreement.{Composition, composed, Agreement}
+use Rattle.rehearsal.specs.Piles.{Built, built}
 
-pub piles-lawful : Piles-lawful
-piles-lawful p n leader calls small = let d = built p n leader in lawful-trial (d .machine) (d .deciding) (d .start) (d .reached) calls small
+lawful : (d : Built) (calls : List Call) → All-small calls → Lawful-trial (d .machine) (d .start) calls
+lawful d calls small = lawful-trial (d .machine) (d .deciding) (d .start) (d .reached) calls small
+
+pub agreement : Agreement
+agreement = record { every-composition = λ c. lawful (composed c); six-piles = λ p n leader. lawful (built p n leader) }

@@ -7,7 +7,8 @@ ghost use Rattle.listing.specs.Over.{over};
 ghost use Rattle.refusal.specs.Numbers.{number-or-zero};
 ghost use Rattle.schedule.specs.Script.{script};
 ghost use Rattle.rehearsal.specs.Lines.{answer-line, listed};
-ghost use Rattle.rehearsal.specs.Piles.{Piles-lawful, Piles-made};
+ghost use Rattle.rehearsal.specs.Agreement.{Agreement};
+ghost use Rattle.rehearsal.specs.Piles.{Piles-made};
 ghost use Rattle.rehearsal.specs.Responders.{in-state};
 ghost use Rattle.rehearsal.specs.Runs.{run-of};
 ghost use Rattle.rehearsal.specs.Serving.{finish, started, renewed, Arrives, Waits};
@@ -66,8 +67,8 @@ pub struct Ran {
 //
 // Its meaning is the definition `run-of`: the lines, the bytes consumed and the ending are those of the abstract
 // machines, and the listing holds the text of the lines and after it what it held before. `made` says that every N
-// which passes its questions has its trial, and `lawful` is the promise about every trial of every pile, whatever
-// calls are put to it.
+// which passes its questions has its trial, and `lawful` is the whole promise about runs: whatever calls are put to a
+// trial, of the six piles and of whatever can be made of the machines, they obey the law.
 pub fn run(schedule: &[u8], listing: &mut [u8]) -> Ran
     ensures bytes { λ _. ⌜ now (listing .exit) ≡ listed (run-of (now (schedule .entry)) (length (now (listing .entry))) .lines)
         ++ drop (length (listed (run-of (now (schedule .entry)) (length (now (listing .entry))) .lines))) (now (listing .entry)) ⌝ }
@@ -76,7 +77,7 @@ pub fn run(schedule: &[u8], listing: &mut [u8]) -> Ran
     ensures ended { λ r. ⌜ r .ended ≡ run-of (now (schedule .entry)) (length (now (listing .entry))) .ended ⌝ }
     ensures bounds { λ r. ⌜ (r .consumed ≤ length (now (schedule .entry))) × (r .written ≤ length (now (listing .exit))) × (number-or-zero (r .ended) ≤ 4) ⌝ }
     ensures made { λ _. ⌜ Piles-made ⌝ }
-    ensures lawful { λ _. ⌜ Piles-lawful ⌝ }
+    ensures lawful { λ _. ⌜ Agreement ⌝ }
 {
     if schedule.len() > LONGEST {
         return Ran {

@@ -15,7 +15,7 @@ use Rattle.rehearsal.specs.Lines.{listed}
 use Rattle.rehearsal.specs.Responders.{no-trial}
 use Rattle.rehearsal.specs.Serving.{Arrives, finish}
 use Rattle.rehearsal.proofs.Bounds.{run-bounded}
-use Rattle.rehearsal.proofs.PilesLawful.{piles-lawful}
+use Rattle.rehearsal.proofs.PilesLawful.{agreement}
 use Rattle.rehearsal.proofs.PilesMade.{piles-made}
 use Rattle.rehearsal.proofs.Reports.{ran, within}
 use Rattle.rehearsal.proofs.run.run.Needs as need
@@ -40,12 +40,12 @@ returns-in-Ended c =
       ended = r .ended;
       bounds = (omega (arith, at, r .consumed, b .consumed), within _ _ _ _ (r .bytes) (r .written), subst (λ (e : Option Refusal). number-or-zero e ≤ 4) (sym (r .ended)) (b .ended));
       made = piles-made;
-      lawful = piles-lawful;
+      lawful = agreement;
     }
 
 pub returns-then-schedule-gt-LONGEST : need.returns-then-schedule-gt-LONGEST
 unfolding listed
 returns-then-schedule-gt-LONGEST c =
-    let l = piles-lawful in
+    let l = agreement in
     let m = piles-made in
     record { bytes = search needs; consumed = search needs; written = search needs; ended = search needs; bounds = search needs; made = m; lawful = l }
