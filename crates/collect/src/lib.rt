@@ -1,3 +1,5 @@
+#![tactic(auto)]
+
 ghost use Rattle.std.specs.Prelude.{◌≡◌, ℕ, ◌≤◌, Bool};
 ghost use Rattle.collect.specs.Ratifier.{collect, collect_meets, fits as fitting, vote as voting, found_in, verdict as judged};
 ghost use Rattle.collect.specs.Kept.{collect_kept};

@@ -1,3 +1,5 @@
+#![tactic(auto)]
+
 pub mod object;
 pub mod questions;
 pub mod record;

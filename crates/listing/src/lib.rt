@@ -1,3 +1,5 @@
+#![tactic(auto)]
+
 ghost use Rattle.std.specs.Prelude.{◌≡◌, ℕ, ◌+◌, ◌≤◌, length, decimal};
 ghost use Rattle.deciding.specs.Laws.{mark as outcome_mark};
 ghost use Rattle.listing.specs.Lines.{access_word, outcome_word};

@@ -1,3 +1,5 @@
+#![tactic(auto)]
+
 pub mod machine;
 pub mod marks;
 pub mod protocol;

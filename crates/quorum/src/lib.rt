@@ -1,3 +1,5 @@
+#![tactic(auto)]
+
 ghost use Rattle.std.specs.Prelude.{◌≡◌};
 ghost use Rattle.quorum.specs.Ratifier.{quorum as ratifier, quorum_meets};
 ghost use Rattle.quorum.specs.Kept.{quorum_kept};

@@ -1,3 +1,5 @@
+#![tactic(auto)]
+
 mod judge;
 mod piles;
 mod responder;

@@ -1,3 +1,5 @@
+#![tactic(auto)]
+
 use rehearsal::run::run;
 use std::io;
 use std::io::{Read, Write};

@@ -1,3 +1,5 @@
+#![tactic(auto)]
+
 mod making;
 pub mod object;
 mod steps;

@@ -1,3 +1,5 @@
+#![tactic(auto)]
+
 ghost use Rattle.std.specs.Prelude.{◌≡◌};
 ghost use Rattle.tables.specs.BitPairs.{bit_pairs};
 ghost use Rattle.tables.specs.Examples.{Examples};

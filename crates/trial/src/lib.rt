@@ -1,3 +1,5 @@
+#![tactic(auto)]
+
 pub mod call;
 mod calls;
 mod making;

@@ -1,3 +1,5 @@
+#![tactic(auto)]
+
 ghost use Rattle.std.specs.Prelude.{◌≡◌};
 ghost use Rattle.conciliators.specs.Adopting.{EmptyOrMark};
 ghost use Rattle.waiting.specs.Waiting.{waiting_conciliator};
