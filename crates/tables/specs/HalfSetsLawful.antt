@@ -103,18 +103,18 @@ entries_differ v u hv hu e = elim (cases_order v u) [
 ]
 
 -- all the ones of a number of k bits are among the lowest k
-ones_in : (k n : ℕ) → n < 2 ^ k → ones_in k n ≡ ones n
+ones_in-ones : (k n : ℕ) → n < 2 ^ k → ones_in k n ≡ ones n
 unfolding ones_in ones
-ones_in zero n h = let none : n ≡ 0 = omega arith in rw none
-ones_in (suc k) n h = ap (λ x. n % 2 + x) (ones_in k (n / 2) (omega arith)) ∙ sym (ones_step n)
+ones_in-ones zero n h = let none : n ≡ 0 = omega arith in rw none
+ones_in-ones (suc k) n h = ap (λ x. n % 2 + x) (ones_in-ones k (n / 2) (omega arith)) ∙ sym (ones_step n)
 
 pub five_ones : FiveOnes
 five_ones = record {
-  has_five = λ v small. sym (ones_in 11 (entry v) (omega (arith, entry_below v small))) ∙ entry_five v small;
+  has_five = λ v small. sym (ones_in-ones 11 (entry v) (omega (arith, entry_below v small))) ∙ entry_five v small;
   ascending = λ v u less small. entry_above u small v less;
   none_left_out = λ x e l.
       let below : x < 1054 = omega (arith, entry_below 255 (omega arith)) in
-      let m = picked_member five 0 1054 x (omega arith) (eq-eqb (ones_in 11 x) 5 (ones_in 11 x (omega arith) ∙ e)) in
+      let m = picked_member five 0 1054 x (omega arith) (eq-eqb (ones_in 11 x) 5 (ones_in-ones 11 x (omega arith) ∙ e)) in
       (m.index, omega (arith, m.below, counted), m.is);
 }
 

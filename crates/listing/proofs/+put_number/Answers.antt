@@ -5,13 +5,13 @@ use Rattle.listing.proofs.+put_number.Goals as goal
 pub bounds-listing-at : goal.bounds-listing-at
 bounds-listing-at t c = omega (arith, one_digit c.args.n (omega arith))
 
-pub returns-then-one-digit : goal.returns-then-one-digit
-returns-then-one-digit t c =
+pub returns-then-one_digit : goal.returns-then-one_digit
+returns-then-one_digit t c =
     let one = one_digit c.args.n (omega arith) in
     record { end = omega arith; after = over_one c.args.listing.now c.args.at c.args.n (omega arith) (omega arith) }
 
-pub put-number-end-requires : goal.put-number-end-requires
-put-number-end-requires t c = let more = more_digits c.args.n (omega arith) (omega arith) in (search rules, omega arith)
+pub put_number-end-requires : goal.put_number-end-requires
+put_number-end-requires t c = let more = more_digits c.args.n (omega arith) (omega arith) in (search rules, omega arith)
 
 pub bounds-listing-end : goal.bounds-listing-end
 bounds-listing-end t c = let more = more_digits c.args.n (omega arith) (omega arith) in omega arith
@@ -25,6 +25,6 @@ returns t c =
     record {
       end = omega arith;
       after =
-          over_last c.args.listing.now c.put-number-end.new.listing c.args.at c.put-number-end.result c.args.n (omega arith) (omega arith) c.requires
-          c.put-number-end.ensures.after c.put-number-end.ensures.end;
+          over_last c.args.listing.now c.put_number-end.new.listing c.args.at c.put_number-end.result c.args.n (omega arith) (omega arith) c.requires
+          c.put_number-end.ensures.after c.put_number-end.ensures.end;
     }

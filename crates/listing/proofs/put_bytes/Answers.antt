@@ -6,5 +6,5 @@ pub returns : goal.returns
 returns c =
     record {
       end = omega arith;
-      after = over_part c.args.listing.now c.args.at _ c.copy-from-slice.new.self c.args.bytes.now c.copy-from-slice.ensures.after (omega arith);
+      after = over_part c.args.listing.now c.args.at _ c.copy_from_slice.new.self c.args.bytes.now c.copy_from_slice.ensures.after (omega arith);
     }

@@ -7,41 +7,41 @@ returns-in-Pile c =
     let tells =
     pile_tells c.args.line c.in-Pile.pile c.number.result c.in-Pile.stations c.in-Pile.limit c.in-Pile.registers
     c.in-Pile.is c.number.ensures (omega arith) (omega arith) (omega arith) in
-    stands tells c.requires c.put-words.ensures.end c.put-words.ensures.after
+    stands tells c.requires c.put_words.ensures.end c.put_words.ensures.after
 
 pub returns-in-Entered : goal.returns-in-Entered
 returns-in-Entered c =
     let tells = enter_tells c.args.line c.in-Entered.station c.in-Entered.mark c.in-Entered.is (omega arith) (omega arith) in
-    stands tells c.requires c.put-words-in-Entered.ensures.end c.put-words-in-Entered.ensures.after
+    stands tells c.requires c.put_words-in-Entered.ensures.end c.put_words-in-Entered.ensures.after
 
 pub returns-in-Stopped : goal.returns-in-Stopped
 returns-in-Stopped c =
     let tells = stop_tells c.args.line c.in-Stopped.station c.in-Stopped.is (omega arith) in
-    stands tells c.requires c.put-words-in-Stopped.ensures.end c.put-words-in-Stopped.ensures.after
+    stands tells c.requires c.put_words-in-Stopped.ensures.end c.put_words-in-Stopped.ensures.after
 
 pub returns-in-Refused : goal.returns-in-Refused
 returns-in-Refused c =
     let tells = refused_tells c.args.line c.in-Refused.refusal c.number-in-Refused.result c.in-Refused.is c.number-in-Refused.ensures (omega arith) in
-    stands tells c.requires c.put-words-in-Refused.ensures.end c.put-words-in-Refused.ensures.after
+    stands tells c.requires c.put_words-in-Refused.ensures.end c.put_words-in-Refused.ensures.after
 
-pub put-words-requires : goal.put-words-requires
-put-words-requires c =
+pub put_words-requires : goal.put_words-requires
+put_words-requires c =
     let tells =
     pile_tells c.args.line c.in-Pile.pile c.number.result c.in-Pile.stations c.in-Pile.limit c.in-Pile.registers
     c.in-Pile.is c.number.ensures (omega arith) (omega arith) (omega arith) in
     omega arith
 
-pub put-words-requires-in-Entered : goal.put-words-requires-in-Entered
-put-words-requires-in-Entered c =
+pub put_words-requires-in-Entered : goal.put_words-requires-in-Entered
+put_words-requires-in-Entered c =
     let tells = enter_tells c.args.line c.in-Entered.station c.in-Entered.mark c.in-Entered.is (omega arith) (omega arith) in
     omega arith
 
-pub put-words-requires-in-Stopped : goal.put-words-requires-in-Stopped
-put-words-requires-in-Stopped c =
+pub put_words-requires-in-Stopped : goal.put_words-requires-in-Stopped
+put_words-requires-in-Stopped c =
     let tells = stop_tells c.args.line c.in-Stopped.station c.in-Stopped.is (omega arith) in
     omega arith
 
-pub put-words-requires-in-Refused : goal.put-words-requires-in-Refused
-put-words-requires-in-Refused c =
+pub put_words-requires-in-Refused : goal.put_words-requires-in-Refused
+put_words-requires-in-Refused c =
     let tells = refused_tells c.args.line c.in-Refused.refusal c.number-in-Refused.result c.in-Refused.is c.number-in-Refused.ensures (omega arith) in
     omega arith

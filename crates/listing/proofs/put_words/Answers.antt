@@ -8,8 +8,8 @@ use Rattle.listing.proofs.Splits.{line_at, line_long, between_more, between_last
 use Rattle.listing.proofs.put_words.Goals as goal
 use Rattle.listing.proofs.put_words.Goals.{then-i-words, else-i-words}
 
-pub put-word-end-requires : goal.put-word-end-requires
-put-word-end-requires c = let long = line_long c.args.words.now c.loop-i.i c.loop-i-test.true in omega arith
+pub put_word-end-requires : goal.put_word-end-requires
+put_word-end-requires c = let long = line_long c.args.words.now c.loop-i.i c.loop-i-test.true in omega arith
 
 pub bounds-listing-end : goal.bounds-listing-end
 bounds-listing-end c = let long = line_long c.args.words.now c.loop-i.i c.loop-i-test.true in omega arith
@@ -26,13 +26,13 @@ loop-i-preserved c =
     let long = line_long ws i here in
     let bs = c.loop-i.listing in
     let start = c.loop-i.end in
-    let mid = c.put-word-end.new.listing in
-    let end = c.put-word-end.result in
+    let mid = c.put_word-end.new.listing in
+    let end = c.put_word-end.result in
     let word = spelled (get_or ws i Pile) in
     let room : start + length (word ++ (between rest ∷ line_of rest)) ≤ length bs = omega (arith, ap length (line_at ws i here)) in
     let whole =
     ap (over bs start) (line_at ws i here)
-    ∙ over_word bs start word (between rest) (line_of rest) mid end c.put-word-end.ensures.after c.put-word-end.ensures.end room in
+    ∙ over_word bs start word (between rest) (line_of rest) mid end c.put_word-end.ensures.after c.put_word-end.ensures.end room in
     let sep : between rest ≡ c.if-i-words.listing =
     elim c.if-i-words.branch [
       | then-i-words w ↦ between_more ws i w.if-i-words.true ∙ sym w.listing-is

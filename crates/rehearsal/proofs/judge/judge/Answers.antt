@@ -12,13 +12,13 @@ returns-in-Some c =
     let bs = c.args.reader.now.schedule.now in
     let p = c.args.reader.now.position in
     let q = c.next.new.self.position in
-    let r = c.judge-command.result in
+    let r = c.judge_command.result in
     let x = item_of c.in-Some.command in
     let passed = shown_command bs p q c.in-Ok.ensures.shows c.in-Some.is in
     let room = c.if-room-lt-ROOM.false in
-    let m = moved r c.args.room p q (length bs) (1 + tail x) c.judge-command.ensures.goes room (omega (arith, passed.after)) (omega (arith, passed.after)) passed.within in
+    let m = moved r c.args.room p q (length bs) (1 + tail x) c.judge_command.ensures.goes room (omega (arith, passed.after)) (omega (arith, passed.after)) passed.within in
     record {
-      judges = (c.judge-command.ensures.judges ∙ sym (judged bs p c.args.room x passed.here room passed.is), m.0 ∙ ap (λ y. past r p (1 + tail y)) passed.is);
+      judges = (c.judge_command.ensures.judges ∙ sym (judged bs p c.args.room x passed.here room passed.is), m.0 ∙ ap (λ y. past r p (1 + tail y)) passed.is);
       same = c.next.ensures.same;
       moves = m.1;
     }
@@ -28,7 +28,7 @@ pub returns-in-None : goal.returns-in-None
 returns-in-None c =
     let bs = c.args.reader.now.schedule.now in
     let p = c.args.reader.now.position in
-    let more = leb-false (length bs) p (sym c.is-done.ensures ∙ c.if-is-done.false) in
+    let more = leb-false (length bs) p (sym c.is_done.ensures ∙ c.if-is_done.false) in
     let end = shown_end bs p c.next.new.self.position c.in-Ok.ensures.shows c.in-None.is in
     absurd (omega (arith, more, end.0))
 

@@ -14,7 +14,7 @@ returns-in-Collect c =
     record {
       arrives =
           pile_arrives c.args.reader.now.schedule.now u c.args.reader.now.position c.args.listing.now c.args.at b.result b.new.reader.position b.new.listing
-          (built name.Collect n u.leader) _ (named u.pile name.Collect n u.leader c.in-Collect.is) c.collect-ratifier-object.ensures b.ensures.arrives;
+          (built name.Collect n u.leader) _ (named u.pile name.Collect n u.leader c.in-Collect.is) c.collect_ratifier-object.ensures b.ensures.arrives;
       same = b.ensures.same;
       waits = b.ensures.waits;
     }
@@ -42,7 +42,7 @@ returns-in-CoinCollect c =
     record {
       arrives =
           pile_arrives c.args.reader.now.schedule.now u c.args.reader.now.position c.args.listing.now c.args.at b.result b.new.reader.position b.new.listing
-          (built name.CoinCollect n u.leader) _ (named u.pile name.CoinCollect n u.leader c.in-CoinCollect.is) (sequence_start (coin_pile n) (collect_pile n) _ _ _ c.coin_conciliator.ensures c.collect-ratifier.ensures c.new-object-in-CoinCollect.ensures.state) b.ensures.arrives;
+          (built name.CoinCollect n u.leader) _ (named u.pile name.CoinCollect n u.leader c.in-CoinCollect.is) (sequence_start (coin_pile n) (collect_pile n) _ _ _ c.coin_conciliator.ensures c.collect_ratifier.ensures c.new-object-in-CoinCollect.ensures.state) b.ensures.arrives;
       same = b.ensures.same;
       waits = b.ensures.waits;
     }
@@ -56,7 +56,7 @@ returns-in-LeaderQuorum c =
     record {
       arrives =
           pile_arrives c.args.reader.now.schedule.now u c.args.reader.now.position c.args.listing.now c.args.at b.result b.new.reader.position b.new.listing
-          (built name.LeaderQuorum n u.leader) _ (named u.pile name.LeaderQuorum n u.leader c.in-LeaderQuorum.is) (sequence_start (leader_pile n u.leader) (half_sets_pile n) _ _ _ c.leader_conciliator.ensures c.half-sets-ratifier.ensures c.new-object-in-LeaderQuorum.ensures.state) b.ensures.arrives;
+          (built name.LeaderQuorum n u.leader) _ (named u.pile name.LeaderQuorum n u.leader c.in-LeaderQuorum.is) (sequence_start (leader_pile n u.leader) (half_sets_pile n) _ _ _ c.leader_conciliator.ensures c.half_sets_ratifier.ensures c.new-object-in-LeaderQuorum.ensures.state) b.ensures.arrives;
       same = b.ensures.same;
       waits = b.ensures.waits;
     }
@@ -67,11 +67,11 @@ returns-in-CollectCoinQuorum c =
     let u = c.args.start in
     let n = u.stations in
     let b = c.begin-in-CollectCoinQuorum in
-    let back = sequence_start (coin_pile n) (bit_pairs_pile n cells) _ _ _ c.coin-conciliator-in-CollectCoinQuorum.ensures c.bit-pairs-ratifier.ensures c.new-back.ensures.state in
+    let back = sequence_start (coin_pile n) (bit_pairs_pile n cells) _ _ _ c.coin_conciliator-in-CollectCoinQuorum.ensures c.bit_pairs_ratifier.ensures c.new-back.ensures.state in
     record {
       arrives =
           pile_arrives c.args.reader.now.schedule.now u c.args.reader.now.position c.args.listing.now c.args.at b.result b.new.reader.position b.new.listing
-          (built name.CollectCoinQuorum n u.leader) _ (named u.pile name.CollectCoinQuorum n u.leader c.in-CollectCoinQuorum.is) (sequence_start (collect_pile n) (in_sequence (coin_pile n) (bit_pairs_pile n cells)) _ _ _ c.collect-ratifier-in-CollectCoinQuorum.ensures back c.new-object-in-CollectCoinQuorum.ensures.state) b.ensures.arrives;
+          (built name.CollectCoinQuorum n u.leader) _ (named u.pile name.CollectCoinQuorum n u.leader c.in-CollectCoinQuorum.is) (sequence_start (collect_pile n) (in_sequence (coin_pile n) (bit_pairs_pile n cells)) _ _ _ c.collect_ratifier-in-CollectCoinQuorum.ensures back c.new-object-in-CollectCoinQuorum.ensures.state) b.ensures.arrives;
       same = b.ensures.same;
       waits = b.ensures.waits;
     }
@@ -82,8 +82,8 @@ returns-in-QuorumLeaderCoinCollect c =
     let u = c.args.start in
     let n = u.stations in
     let b = c.begin-in-QuorumLeaderCoinCollect in
-    let front = sequence_start (half_sets_pile n) (leader_pile n u.leader) _ _ _ c.half-sets-ratifier-in-QuorumLeaderCoinCollect.ensures c.leader-conciliator-in-QuorumLeaderCoinCollect.ensures c.new-front.ensures.state in
-    let back = sequence_start (coin_pile n) (collect_pile n) _ _ _ c.coin-conciliator-in-QuorumLeaderCoinCollect.ensures c.collect-ratifier-in-QuorumLeaderCoinCollect.ensures c.new-back-in-QuorumLeaderCoinCollect.ensures.state in
+    let front = sequence_start (half_sets_pile n) (leader_pile n u.leader) _ _ _ c.half_sets_ratifier-in-QuorumLeaderCoinCollect.ensures c.leader_conciliator-in-QuorumLeaderCoinCollect.ensures c.new-front.ensures.state in
+    let back = sequence_start (coin_pile n) (collect_pile n) _ _ _ c.coin_conciliator-in-QuorumLeaderCoinCollect.ensures c.collect_ratifier-in-QuorumLeaderCoinCollect.ensures c.new-back-in-QuorumLeaderCoinCollect.ensures.state in
     record {
       arrives =
           pile_arrives c.args.reader.now.schedule.now u c.args.reader.now.position c.args.listing.now c.args.at b.result b.new.reader.position b.new.listing

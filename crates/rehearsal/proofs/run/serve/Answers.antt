@@ -64,7 +64,7 @@ pub loop-refusal-preserved : goal.loop-refusal-preserved
 loop-refusal-preserved g c =
     let l = c.loop-refusal in
     let R = g.R.Responder in
-    let line = c.line-of.ensures in (
+    let line = c.line_of.ensures in (
       omega (arith, c.write-written-in-Asks.ensures.fits, c.write-written-in-Asks.auto.listing),
       c.judge.ensures.same ∙ l.invariant.1,
       omega (arith, c.in-Asks.ensures.moves.1, l.invariant.2),

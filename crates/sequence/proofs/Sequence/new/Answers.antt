@@ -13,7 +13,7 @@ returns g c =
     let x = G.state c.args.first in
     let y = K.state c.args.second in
     record {
-      state = λ both. ap (λ (q : Option Refusal). with_refusal (pair x y) q) (c.first-refusal-refused.ensures both);
-      reached = λ both. sequence_made_reached G.machine K.machine G.deciding K.deciding x y both.0 both.1 _ (c.first-refusal-refused.ensures both);
+      state = λ both. ap (λ (q : Option Refusal). with_refusal (pair x y) q) (c.first_refusal-refused.ensures both);
+      reached = λ both. sequence_made_reached G.machine K.machine G.deciding K.deciding x y both.0 both.1 _ (c.first_refusal-refused.ensures both);
       after = λ p s k. second_after G.machine K.machine p s k;
     }

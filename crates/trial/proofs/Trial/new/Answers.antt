@@ -9,7 +9,7 @@ returns g c =
     record {
       state = search rules;
       begun = λ reached.
-          let q = c.first-refusal-refused.result in
-          let e = c.first-refusal-refused.ensures reached in
+          let q = c.first_refusal-refused.result in
+          let e = c.first_refusal-refused.ensures reached in
           record { reached = trial_reached D.machine D.deciding p reached q e; away = trial_away D.machine D.deciding p reached q e; stopped = λ s. search rules };
     }

@@ -4,8 +4,8 @@ use Rattle.trial.specs.Trials.{tried, whole}
 use Rattle.trial.proofs.Performing.{refuses}
 use Rattle.trial.proofs.Trial.stop.Goals as goal
 
-pub returns-in-err-admit : goal.returns-in-err-admit
-returns-in-err-admit g c = λ reached.
+pub returns-in_err-admit : goal.returns-in_err-admit
+returns-in_err-admit g c = λ reached.
     let G = g.D.DecidingObject in
-    let p = err_from_is_err_and c.from-residual.result c.from-residual.ensures.1 in
-    rw (p.1, p.2) (refuses (whole G) (tried G c.args.self.now) (Stop c.args.station) tt _ (c.in-err-admit.ensures reached))
+    let p = err_from_is_err_and c.from_residual.result c.from_residual.ensures.1 in
+    rw (p.1, p.2) (refuses (whole G) (tried G c.args.self.now) (Stop c.args.station) tt _ (c.in_err-admit.ensures reached))

@@ -7,7 +7,7 @@ use Rattle.trial.proofs.rehearsal.rehearse.Goals as goal
 pub loop-call-init : goal.loop-call-init
 loop-call-init g c =
     let D = g.D.DecidingObject in
-    let new = c.in-ok-answers.ensures in (
+    let new = c.in_ok-answers.ensures in (
       new.len,
       new.capacity,
       λ reached.
@@ -20,7 +20,7 @@ loop-call-preserved g c =
     let D = g.D.DecidingObject in
     let d = refusable_deciding D.machine D.deciding in
     let inv = c.loop-call.invariant in
-    let pushed = c.push-reserved.ensures in (
+    let pushed = c.push_reserved.ensures in (
       omega arith,
       omega arith,
       λ reached.

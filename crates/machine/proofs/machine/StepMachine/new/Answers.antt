@@ -12,6 +12,6 @@ returns g c =
     let u = c.args.protocol in
     let xs = g.B.Board.contents c.args.board in
     record {
-      made = ap (λ (q : Option Refusal). with_refusal (fresh p u xs) q) c.first-refusal-refused.ensures;
-      reached = subst (λ (q : Option Refusal). (kept_deciding p kept).Reached (with_refusal (fresh p u xs) q)) (sym c.first-refusal-refused.ensures) (made_reached p kept u xs);
+      made = ap (λ (q : Option Refusal). with_refusal (fresh p u xs) q) c.first_refusal-refused.ensures;
+      reached = subst (λ (q : Option Refusal). (kept_deciding p kept).Reached (with_refusal (fresh p u xs) q)) (sym c.first_refusal-refused.ensures) (made_reached p kept u xs);
     }

@@ -6,10 +6,10 @@ pub returns-then-not-has : goal.returns-then-not-has
 returns-then-not-has g c reached =
     enter_nobody g.P.Protocol.rules g.P.Protocol.kept _ _ reached c.args.station c.args.mark (omega arith) (sym c.if-not-has.ensures)
 
-pub returns-in-default : goal.returns-in-default
-returns-in-default g c reached =
+pub returns-in_default : goal.returns-in_default
+returns-in_default g c reached =
     enter_again g.P.Protocol.rules g.P.Protocol.kept _ _ reached c.args.station c.args.mark (omega arith) (sym c.if-not-has.ensures)
-    (λ e. c.in-default.not-Absent (c.status.ensures ∙ e))
+    (λ e. c.in_default.not-Absent (c.status.ensures ∙ e))
 
 pub returns-in-Absent : goal.returns-in-Absent
 returns-in-Absent g c reached =
