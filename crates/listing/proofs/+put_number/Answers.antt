@@ -16,8 +16,8 @@ put_number-end-requires t c = let more = more_digits c.args.n (omega arith) (ome
 pub bounds-listing-end : goal.bounds-listing-end
 bounds-listing-end t c = let more = more_digits c.args.n (omega arith) (omega arith) in omega arith
 
-pub overflow-add-result-2 : goal.overflow-add-result-2
-overflow-add-result-2 t c = let more = more_digits c.args.n (omega arith) (omega arith) in search rules
+pub overflow_add-result-2 : goal.overflow_add-result-2
+overflow_add-result-2 t c = let more = more_digits c.args.n (omega arith) (omega arith) in search rules
 
 pub returns : goal.returns
 returns t c =

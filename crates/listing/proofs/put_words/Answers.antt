@@ -14,8 +14,8 @@ put_word-end-requires c = let long = line_long c.args.words.now c.loop-i.i c.loo
 pub bounds-listing-end : goal.bounds-listing-end
 bounds-listing-end c = let long = line_long c.args.words.now c.loop-i.i c.loop-i-test.true in omega arith
 
-pub overflow-add-end : goal.overflow-add-end
-overflow-add-end c = let long = line_long c.args.words.now c.loop-i.i c.loop-i-test.true in search rules
+pub overflow_add-end : goal.overflow_add-end
+overflow_add-end c = let long = line_long c.args.words.now c.loop-i.i c.loop-i-test.true in search rules
 
 pub loop-i-preserved : goal.loop-i-preserved
 loop-i-preserved c =

@@ -16,15 +16,15 @@ returns-in-Done g c reached =
     step_done g.P.Protocol.rules g.P.Protocol.kept _ _ reached c.args.station c.args.coin (sym c.if-not-has.ensures) _ _ _ (sym c.in-Done.ensures)
 
 -- a reached machine finds its register
-pub returns-in_err-operation : goal.returns-in_err-operation
-returns-in_err-operation g c reached =
+pub returns-in_err-operation-in-Running : goal.returns-in_err-operation-in-Running
+returns-in_err-operation-in-Running g c reached =
     let there = register_there g.P.Protocol.rules g.P.Protocol.kept _ _ reached c.args.station c.args.coin (sym c.if-not-has.ensures) _ _ _ (sym c.in-Running.ensures) in
     let planned = ap register_of c.plan-plan.ensures in
-    absurd (omega (arith, there, planned, c.in_err-operation.ensures))
+    absurd (omega (arith, there, planned, c.in_err-operation-in-Running.ensures))
 
-pub returns-in_ok-operation : goal.returns-in_ok-operation
-returns-in_ok-operation g c reached =
-    let carried = c.in_ok-operation.ensures in
+pub returns-in_ok-operation-in-Running : goal.returns-in_ok-operation-in-Running
+returns-in_ok-operation-in-Running g c reached =
+    let carried = c.in_ok-operation-in-Running.ensures in
     steps_on g.P.Protocol.rules g.P.Protocol.kept _ _ reached c.args.station c.args.coin (sym c.if-not-has.ensures) _ _ _ (sym c.in-Running.ensures)
-    c.plan-plan.result c.in_ok-operation.operation _ _ _ c.advance-outcome.result c.advance-outcome.new.row
+    c.plan-plan.result c.in_ok-operation-in-Running.operation _ _ _ c.advance-outcome.result c.advance-outcome.new.row
     c.plan-plan.ensures carried.1 carried.2 c.from.ensures c.advance-outcome.ensures
