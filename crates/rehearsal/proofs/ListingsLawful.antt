@@ -32,7 +32,7 @@ use Rattle.rehearsal.specs.Listings.{Listed, ◌got◌, beside, call_of, TellsOf
 use Rattle.rehearsal.specs.Piles.{Built, built, ReadyPile}
 use Rattle.rehearsal.specs.Responders.{Heard, Responder, in_state, refuses_all, no_trial, performs}
 use Rattle.rehearsal.specs.Runs.{start_verdict, item_verdict, verdict, done, Report, reported, report, run_of}
-use Rattle.rehearsal.proofs.PilesMade.{piles_made}
+use Rattle.rehearsal.proofs.PilesMade.{piles_ready}
 
 clash : {A : Type 0} → ◌≡◌ {A = ℕ} 0 1 → A
 clash e = absurd (omega arith)
@@ -247,6 +247,21 @@ module _ (d : Built) (n : ℕ) (ready : ReadyPile n d) where
             (trial_reached d.machine d.deciding d.start d.reached refused refl) (trial_away d.machine d.deciding d.start d.reached refused refl) calls s.small;
       }
 
+  -- the line of its pile shows its numbers
+  pile_begins : (i y : Item) (q p : Pile) (k limit registers : ℕ) (part : List Listed) → y ≡ i → line.Pile p k limit registers ≡ line.Pile q (m.stations x.object) (m.limit x.object) (m.registers x.object) →
+      AsksFor i q n → OneTrial (m.stations x.object) (m.limit x.object) (m.registers x.object) part → AsksFor y p k × OneTrial k limit registers part
+  pile_begins i y q p k limit registers part item shown asked trial =
+      let pile : p ≡ q = cc in
+      let count : k ≡ m.stations x.object = cc in
+      let short : limit ≡ m.limit x.object = cc in
+      let narrow : registers ≡ m.registers x.object = cc in
+      let here = subst (λ (z : Item). AsksFor z q n) (sym item) asked in
+      let named = subst (λ (z : Pile). AsksFor y z n) (sym pile) here in
+      let counted = subst (λ (z : ℕ). AsksFor y p z) (sym (count ∙ stations)) named in
+      let one = subst (λ (z : ℕ). OneTrial z (m.limit x.object) (m.registers x.object) part) (sym count) trial in
+      let two = subst (λ (z : ℕ). OneTrial k z (m.registers x.object) part) (sym short) one in
+      (counted, subst (λ (z : ℕ). OneTrial k limit z part) (sym narrow) two)
+
 -- FROM A PILE'S LINE ON
 abbrev Trials : List Item → Type 1
 Trials xs = (room : ℕ) (st : Responder) (before trial after : List Listed) (y : Item) (p : Pile) (n limit registers : ℕ) →
@@ -265,10 +280,10 @@ this_line i is small room st trial after y p n limit registers (Asks c) j e none
     let h = same i _ _ y (line.Pile p n limit registers) (trial ++ after) e in absurd (true≢false (ap is_pile h.lines ∙ answer_no_pile c _))
 this_line i is small room st trial after y p n limit registers (Begins u) j e none =
     let d = built u.pile u.stations u.leader in
-    let ready = piles_made u.pile u.stations u.leader j.1.0 j.1.1 in
+    let ready = piles_ready u.pile u.stations u.leader j.1 j.2 in
     let h = same i _ _ y (line.Pile p n limit registers) (trial ++ after) e in
     let s = stretch (performs (refusable d.machine)) is small _ (new_trial d.machine d.start) trial after h.rest none in
-    ?
+    pile_begins d u.stations ready i y u.pile p n limit registers trial h.items h.lines j.0 (one_trial d u.stations ready trial s)
 
 -- it is a later one
 later_line : (i : Item) (is : List Item) → Trials is → (room : ℕ) (st : Responder) (b : Listed) (before trial after : List Listed) (y : Item) (p : Pile) (n limit registers : ℕ) (v : Verdict) →

@@ -34,7 +34,7 @@ use Rattle.tables.specs.HalfSets.{half_sets}
 use Rattle.tables.specs.HalfSetsLawful.{half_sets_lawful}
 use Rattle.schedule.specs.declared.pile.Pile.TheVariants as name
 use Rattle.trial.specs.Perform.{trial_refusal}
-use Rattle.rehearsal.specs.Piles.{Built, one_machine, in_sequence, cells, card, collect_pile, coin_pile, leader_pile, bit_pairs_pile, half_sets_pile, built, ReadyPile, PilesMade}
+use Rattle.rehearsal.specs.Piles.{Built, one_machine, in_sequence, cells, card, collect_pile, coin_pile, leader_pile, bit_pairs_pile, half_sets_pile, built, PilesMade, ReadyPile, PilesReady}
 
 -- a pile was made with n stations, ratifying or not, at most so many steps and registers, and all its records are away
 record Ready (n limit registers : ℕ) (ratifying : Bool) (d : Built) : Type 0 where
@@ -124,25 +124,28 @@ card_empty : card ≡ replicate 17 0
 unfolding contents_of
 card_empty = refl
 
-pub piles_made : PilesMade
+pub piles_ready : PilesReady
 unfolding built
-piles_made name.Collect n leader few led = trial_ready n few (collect_pile n) 34 32 (collect_ready n few)
-piles_made name.Quorum n leader few led =
+piles_ready name.Collect n leader few led = trial_ready n few (collect_pile n) 34 32 (collect_ready n few)
+piles_ready name.Quorum n leader few led =
     trial_ready n few (bit_pairs_pile n card) 18 17 (subst (λ (xs : List ℕ). Ready n 18 17 true (bit_pairs_pile n xs)) (sym card_empty) (bit_pairs_ready n few 17 (omega arith)))
-piles_made name.CoinCollect n leader few led =
+piles_ready name.CoinCollect n leader few led =
     trial_ready n few (in_sequence (coin_pile n) (collect_pile n)) 53 33 (sequence_ready n few (coin_pile n) (collect_pile n) 19 1 34 32 (coin_ready n few) (collect_ready n few) (omega arith) (omega arith))
-piles_made name.LeaderQuorum n leader few led =
+piles_ready name.LeaderQuorum n leader few led =
     trial_ready n few (in_sequence (leader_pile n leader) (half_sets_pile n)) 14 13
     (sequence_ready n few (leader_pile n leader) (half_sets_pile n) 1 1 13 12 (leader_ready n few leader led) (half_sets_ready n few) (omega arith) (omega arith))
-piles_made name.CollectCoinQuorum n leader few led =
+piles_ready name.CollectCoinQuorum n leader few led =
     let back = in_sequence (coin_pile n) (bit_pairs_pile n cells) in
     trial_ready n few (in_sequence (collect_pile n) back) 71 50
     (sequence_ready n few (collect_pile n) back 34 32 37 18 (collect_ready n few)
     (sequence_ready n few (coin_pile n) (bit_pairs_pile n cells) 19 1 18 17 (coin_ready n few) (bit_pairs_ready n few 64 (omega arith)) (omega arith) (omega arith)) (omega arith) (omega arith))
-piles_made name.QuorumLeaderCoinCollect n leader few led =
+piles_ready name.QuorumLeaderCoinCollect n leader few led =
     let front = in_sequence (half_sets_pile n) (leader_pile n leader) in
     let back = in_sequence (coin_pile n) (collect_pile n) in
     trial_ready n few (in_sequence front back) 67 46
     (sequence_ready n few front back 14 13 53 33
     (sequence_ready n few (half_sets_pile n) (leader_pile n leader) 13 12 1 1 (half_sets_ready n few) (leader_ready n few leader led) (omega arith) (omega arith))
     (sequence_ready n few (coin_pile n) (collect_pile n) 19 1 34 32 (coin_ready n few) (collect_ready n few) (omega arith) (omega arith)) (omega arith) (omega arith))
+
+pub piles_made : PilesMade
+piles_made p n leader few led = let ready = piles_ready p n leader few led in (ready.made, ready.stations)
