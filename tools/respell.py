@@ -29,8 +29,8 @@ IMPORT = re.compile(r"^\s*(?:pub\s+)?(?:ghost\s+)?use\s+(?!Rattle\.(?!std\b))\S+
 COMMENT = {".antt": re.compile(r"(^|\s)--(\s.*)?$"), ".rt": re.compile(r"//.*$")}
 # a lemma on a word: the word's name, a dash, and what it is applied to
 WORDS = {"getD": "get_or", "length": "length"}
-# beside a variant that has the name in camel case
-TAKEN = {"No-pile": "WithoutPile"}
+# names that would fall together: with a variant of the same file, and with a word of the library
+TAKEN = {"No-pile": "WithoutPile", "ones-in": "ones_in-ones"}
 
 
 def files():

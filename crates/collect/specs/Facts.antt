@@ -6,7 +6,7 @@ use Rattle.deciding.specs.declared.record.Outcome.TheVariants.{Adopt, Commit}
 use Rattle.machine.specs.declared.status.Status.TheVariants.{Absent, Running, Done}
 use Rattle.collect.specs.declared.CollectPhase.TheVariants.{WriteMark, ReadMarks, WriteVote, ReadVotes}
 use Rattle.deciding.specs.Laws.{mark}
-use Rattle.collect.specs.Ratifier.{full, half, vote, fits, found_in, verdict}
+use Rattle.collect.specs.Ratifier.{full, vote, fits, found_in, verdict}
 use Rattle.collect.specs.Invariant.{Row, View, RowProposes, mark_content, AgreesPast, VotesPast, Proposed, FullVote, TwoMarks, VoteContent, Single, Invariant}
 
 -- What the tests on a content tell.

@@ -2,7 +2,7 @@
 use Rattle.std.specs.Prelude.{◌≡◌, ℕ, ◌<◌, ◌≤◌}
 use Rattle.deciding.specs.declared.record.Record.TheVariants.{Away, UnderWay}
 use Rattle.deciding.specs.Laws.{Laws, stepped}
-use Rattle.deciding.specs.Machine.{Machine, Step, Enters, Steps, Beside}
+use Rattle.deciding.specs.Machine.{Machine, Enters, Steps, Beside}
 use Rattle.deciding.specs.Sizes.{Sized}
 
 -- Reached holds of the states that an object comes to by accepted enters and steps, from its making on. It says no more

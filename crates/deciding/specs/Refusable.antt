@@ -1,7 +1,7 @@
 -- A making that may be refused. Every object whose making asks questions is a machine with the refusal beside it: it shows
 -- the machine where the making passed, and nothing at all where it was refused. One text and one proof for all of them.
 use Rattle.std.specs.Prelude.{◌≡◌, ℕ, ◌<◌, ◌≤◌, Bool, true, false, Some, None, Option, nat_le, nat_lt, refl}
-use Rattle.std.proofs.Common.{arith, sym, ap, subst}
+use Rattle.std.proofs.Common.{arith}
 use Rattle.std.proofs.lemmas.Bool.{and_parts, leb-true}
 use Rattle.refusal.specs.declared.Refusal.{Refusal}
 use Rattle.deciding.specs.declared.record.Record.{Record}
@@ -10,7 +10,7 @@ use Rattle.deciding.specs.Laws.{Laws, away_laws, stepped}
 use Rattle.deciding.specs.Machine.{Machine, Step, Enters, Steps, Beside}
 use Rattle.deciding.specs.Sizes.{Sizes, Sized, one_to_sixteen}
 use Rattle.deciding.specs.Deciding.{Deciding}
-use Rattle.deciding.specs.Calls.{Entry, entry, entry_by, Stepped as AnsweredStep, stepping, step_by}
+use Rattle.deciding.specs.Calls.{entry, entry_by, stepping, step_by}
 
 pub record Refusable (S : Type 0) : Type 0 where
   pub inner : S

@@ -3,7 +3,6 @@ use Rattle.std.specs.Prelude.{ℕ, List, [], ◌∷◌, Some, None, Option}
 use Rattle.refusal.specs.Numbers.{number_of}
 use Rattle.deciding.specs.declared.record.Access.{Access}
 use Rattle.deciding.specs.declared.record.Access.TheVariants as access
-use Rattle.deciding.specs.declared.record.Operation.{Operation}
 use Rattle.deciding.specs.declared.record.Outcome.{Outcome}
 use Rattle.deciding.specs.declared.record.Outcome.TheVariants as outcome
 use Rattle.deciding.specs.Laws.{mark}

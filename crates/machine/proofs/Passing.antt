@@ -1,5 +1,5 @@
 -- A machine on an empty board that is large enough is made.
-use Rattle.std.proofs.Common.{◌≡◌, ℕ, zero, suc, ◌<◌, ◌≤◌, Bool, true, cond, ◌&&◌, eqb, leb, List, length, get_or, replicate, Some, None, Option, refl, ap, ◌∙◌, inl, inr, arith}
+use Rattle.std.proofs.Common.{◌≡◌, ℕ, zero, suc, ◌≤◌, true, List, length, get_or, replicate, None, refl, ap, inl, inr, arith}
 use lib.ListN.{length-replicate, get_or-replicate, get_or-eq_default}
 use Rattle.std.proofs.lemmas.Bool.{cases_lt, le-leb, eq-eqb}
 use Rattle.deciding.specs.declared.record.Record.TheVariants.{Away}

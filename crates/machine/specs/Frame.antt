@@ -1,16 +1,15 @@
 -- A protocol with an invariant gives a deciding object on every board, and every making begins one. Assumes nothing.
-use Rattle.std.specs.Prelude.{◌≡◌, ℕ, ◌<◌, ◌≤◌, Bool, true, false, cond, ◌&&◌, List, length, Some, None, Decides, Option, nat_eq, nat_le, slice_index, slice_index_or, slice_set, refl}
-use Rattle.std.proofs.Common.{ap, subst, ◌∙◌, inl, inr, arith, length-set}
+use Rattle.std.specs.Prelude.{◌≡◌, ℕ, ◌<◌, ◌≤◌, Bool, true, false, cond, List, length, Some, None, Decides, Option, nat_eq, nat_le, slice_index, slice_index_or, slice_set, refl}
+use Rattle.std.proofs.Common.{ap, ◌∙◌, inl, inr, arith, length-set}
 use Rattle.std.proofs.Math.ListN.{get_or-eq_default}
 use Rattle.std.proofs.lemmas.List.{get_or-set_same, get_or-set_other, get_or-replicate}
 use Rattle.std.proofs.lemmas.Bool.{leb-true, cases_lt, and_parts}
 use Rattle.std.proofs.lemmas.Bool.Decides.{Decides-eqb, Decides-below_and}
 use Rattle.refusal.specs.declared.Refusal.{Refusal}
 use Rattle.refusal.specs.declared.Refusal.TheVariants.{StationCount, TooFewRegisters, RegistersInUse}
-use Rattle.deciding.specs.declared.record.Record.{Record}
 use Rattle.deciding.specs.declared.record.Record.TheVariants.{Away, UnderWay}
-use Rattle.deciding.specs.Laws.{Laws, stepped}
-use Rattle.deciding.specs.Machine.{Machine, Step, Beside, Enters, Steps}
+use Rattle.deciding.specs.Laws.{stepped}
+use Rattle.deciding.specs.Machine.{Step, Beside, Enters, Steps}
 use Rattle.deciding.specs.Sizes.{Sizes, one_to_sixteen}
 use Rattle.deciding.specs.Deciding.{Deciding}
 use Rattle.deciding.specs.Refusable.{with_refusal, refusable, refusable_deciding}

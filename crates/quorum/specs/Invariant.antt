@@ -14,7 +14,7 @@
 --    the station may commit p, and every outcome has the mark p.
 -- 5. A register of the pool that is not empty is in the write set of a proposed mark. None in the read set of p is in the write set
 --    of p. So a station that finds one full, and adopts p, shows that another mark than p was proposed.
-use Rattle.std.specs.Prelude.{◌≡◌, ℕ, ◌+◌, ◌<◌, ◌≤◌, ◌≢◌, ◌⊎◌, List, length, set, slice_index, slice_index_or, slice_set}
+use Rattle.std.specs.Prelude.{◌≡◌, ℕ, ◌+◌, ◌<◌, ◌≤◌, ◌≢◌, ◌⊎◌, List, length, slice_index, slice_index_or, slice_set}
 use Rattle.std.proofs.Common.{subst, inl, inr}
 use Rattle.deciding.specs.declared.record.Outcome.TheVariants.{Adopt, Commit}
 use Rattle.machine.specs.declared.status.Status.{Status}

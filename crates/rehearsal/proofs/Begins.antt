@@ -1,5 +1,5 @@
 -- A pile that begins: its line, and its trial with nobody stopped.
-use Rattle.std.proofs.Common.{◌≡◌, ℕ, ◌+◌, List, length, drop, sym, refl, ap, ◌∙◌, subst}
+use Rattle.std.proofs.Common.{◌≡◌, ℕ, ◌+◌, List, length, drop, sym, ap, ◌∙◌, subst}
 use Rattle.deciding.specs.Machine.{Machine}
 use Rattle.deciding.specs.Refusable.{Refusable, refusable}
 use Rattle.listing.specs.declared.line.Line.{Line}

@@ -1,5 +1,5 @@
 -- The law of listings, of every run: line by line, by what its command was judged to be.
-use Rattle.std.proofs.Common.{◌≡◌, ℕ, zero, suc, ◌+◌, ◌-◌, ◌<◌, ◌≤◌, Bool, true, false, eqb, ltb, leb, ◌⊎◌, List, [], ◌∷◌, ◌++◌, length, get_or, take, Some, None, Ok, Err, Option, Result, sym, refl, ap, ◌∙◌, subst, inl, inr, arith}
+use Rattle.std.proofs.Common.{◌≡◌, ℕ, zero, suc, ◌+◌, ◌<◌, ◌≤◌, Bool, true, false, eqb, ltb, leb, List, [], ◌∷◌, ◌++◌, length, get_or, take, Some, None, Ok, Err, Option, Result, sym, refl, ap, ◌∙◌, subst, inl, inr, arith}
 use Rattle.std.proofs.lemmas.List.{get_or-take}
 use Rattle.std.proofs.lemmas.Bool.{cond_both, and_parts, leb-true, ltb-true, eqb-true, true≢false}
 use Rattle.refusal.specs.declared.Refusal.{Refusal}
@@ -15,16 +15,14 @@ use Rattle.schedule.specs.Piles.{number_of_pile, pile_numbered}
 use Rattle.schedule.specs.Script as script
 use Rattle.schedule.specs.Script.{Kind, Item, command, broken, operands, with_operands, item, tail, items, script}
 use Rattle.trial.specs.declared.call.Call.{Call}
-use Rattle.trial.specs.declared.call.Call.TheVariants.{Enter, Step, Stop}
 use Rattle.trial.specs.declared.call.Answer.{Answer}
 use Rattle.trial.specs.declared.call.Answer.TheVariants as answer
-use Rattle.trial.specs.Events.{Event, ◌gives◌, events_of, Among}
-use Rattle.trial.specs.Law.{Lawful, InRange}
+use Rattle.trial.specs.Events.{◌gives◌, events_of, Among}
+use Rattle.trial.specs.Law.{Lawful}
 use Rattle.trial.specs.Perform.{TrialState, Small, AllSmall, perform, trial_refusal, answers, last}
 use Rattle.trial.specs.Trials.{new_trial}
 use Rattle.trial.proofs.LawOfRuns.{in_range}
 use Rattle.trial.proofs.Makings.{lawful_trial, trial_reached, trial_away}
-use Rattle.rehearsal.specs.declared.verdict.Start.{Start}
 use Rattle.rehearsal.specs.declared.verdict.Verdict.{Verdict}
 use Rattle.rehearsal.specs.declared.verdict.Verdict.TheVariants.{Ends, Halts, Refuses, Begins, Asks}
 use Rattle.rehearsal.specs.Lines.{answer_line}

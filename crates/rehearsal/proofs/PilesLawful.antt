@@ -4,7 +4,7 @@ use Rattle.trial.specs.declared.call.Call.{Call}
 use Rattle.trial.specs.Perform.{AllSmall}
 use Rattle.trial.specs.Trials.{LawfulTrial}
 use Rattle.trial.proofs.Makings.{lawful_trial}
-use Rattle.rehearsal.specs.Agreement.{Composition, composed, Agreement}
+use Rattle.rehearsal.specs.Agreement.{composed, Agreement}
 use Rattle.rehearsal.specs.Piles.{Built, built}
 
 lawful : (d : Built) (calls : List Call) → AllSmall calls → LawfulTrial d.machine d.start calls

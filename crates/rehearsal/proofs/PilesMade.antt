@@ -1,19 +1,14 @@
 -- Every pile that an N can ask for is made.
-use Rattle.std.proofs.Common.{◌≡◌, ℕ, ◌+◌, ◌*◌, ◌≤◌, Bool, true, false, cond, ◌||◌, eqb, ltb, leb, List, replicate, Some, None, Option, sym, refl, ap, ◌∙◌, subst, arith}
-use Rattle.std.proofs.lemmas.Bool.{and_parts, leb-true, le-leb, eq-eqb, cond-true}
-use Rattle.refusal.specs.declared.Refusal.{Refusal}
-use Rattle.deciding.specs.declared.record.Record.{Record}
+use Rattle.std.proofs.Common.{◌≡◌, ℕ, ◌+◌, ◌≤◌, Bool, true, false, ◌||◌, ltb, leb, List, replicate, None, sym, refl, ◌∙◌, subst, arith}
+use Rattle.std.proofs.lemmas.Bool.{and_parts, leb-true, le-leb, eq-eqb}
 use Rattle.deciding.specs.declared.record.Record.TheVariants.{Away}
-use Rattle.deciding.specs.Machine.{Machine}
 use Rattle.deciding.specs.Sizes.{one_to_sixteen}
-use Rattle.deciding.specs.Refusable.{Refusable, refusable, with_refusal}
 use Rattle.deciding.proofs.AwayTests.{away_all}
-use Rattle.machine.specs.Protocol.{Protocol, Running', machine_of}
+use Rattle.machine.specs.Protocol.{Protocol}
 use Rattle.machine.specs.Kept.{Kept}
-use Rattle.machine.specs.Making.{refusal_of, fresh, made}
+use Rattle.machine.specs.Making.{refusal_of}
 use Rattle.machine.proofs.Passing.{passes, fresh_away}
-use Rattle.sequence.specs.Joint.{Pair, pair, joined, joint}
-use Rattle.sequence.specs.Making.{sequence_refusal, sequence_made}
+use Rattle.sequence.specs.Making.{sequence_refusal}
 use Rattle.collect.specs.Ratifier.{collect}
 use Rattle.collect.specs.Kept.{collect_kept}
 use Rattle.board.specs.Cards.{contents_of}
@@ -33,7 +28,6 @@ use Rattle.tables.specs.BitPairsLawful.{bit_pairs_lawful}
 use Rattle.tables.specs.HalfSets.{half_sets}
 use Rattle.tables.specs.HalfSetsLawful.{half_sets_lawful}
 use Rattle.schedule.specs.declared.pile.Pile.TheVariants as name
-use Rattle.trial.specs.Perform.{trial_refusal}
 use Rattle.rehearsal.specs.Piles.{Built, one_machine, in_sequence, cells, card, collect_pile, coin_pile, leader_pile, bit_pairs_pile, half_sets_pile, built, PilesMade, ReadyPile, PilesReady}
 
 -- a pile was made with n stations, ratifying or not, at most so many steps and registers, and all its records are away

@@ -1,5 +1,5 @@
 -- One command of a run: what is to come before it, and after it.
-use Rattle.std.proofs.Common.{◌≡◌, ℕ, ◌+◌, ◌-◌, ◌<◌, ◌≤◌, ltb, List, [], ◌∷◌, length, drop, Some, None, Option, sym, refl, ap, ◌∙◌, subst, inl, inr, append-nil, arith}
+use Rattle.std.proofs.Common.{◌≡◌, ℕ, ◌+◌, ◌-◌, ltb, List, [], ◌∷◌, length, drop, Some, None, Option, sym, refl, ap, ◌∙◌, subst, inl, inr, append-nil, arith}
 use Rattle.std.proofs.lemmas.Bool.{cond-true, cond-false, lt-ltb, le-ltb, cases_lt}
 use Rattle.refusal.specs.declared.Refusal.{Refusal}
 use Rattle.listing.specs.declared.line.Line.TheVariants.{Refused}
@@ -16,7 +16,7 @@ use Rattle.rehearsal.specs.declared.verdict.Verdict.TheVariants.{Ends, Halts, Re
 use Rattle.rehearsal.specs.Lines.{answer_line, listed}
 use Rattle.rehearsal.specs.Responders.{Responder, Heard, in_state}
 use Rattle.rehearsal.specs.Runs.{verdict, done}
-use Rattle.rehearsal.specs.Serving.{past, judging, Judges, Final, went, finish}
+use Rattle.rehearsal.specs.Serving.{past, Judges, Final, went, finish}
 
 -- what follows a command that ends the run does not matter, and otherwise the command is passed
 after : (v : Verdict) (st : Responder) (bs : List ℕ) (p n : ℕ) (bytes : List ℕ) (w : ℕ) →

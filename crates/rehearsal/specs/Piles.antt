@@ -9,16 +9,12 @@ use Rattle.machine.specs.Protocol.{Protocol, machine_of}
 use Rattle.machine.specs.Kept.{Kept}
 use Rattle.machine.specs.Making.{made}
 use Rattle.machine.specs.Frame.{kept_deciding, made_reached}
-use Rattle.collect.specs.declared.Collect.{Collect}
 use Rattle.collect.specs.Ratifier.{collect}
 use Rattle.collect.specs.Kept.{collect_kept}
-use Rattle.conciliators.specs.declared.coin.Coin.{Coin}
-use Rattle.conciliators.specs.declared.leader.Leader.{Leader}
 use Rattle.conciliators.specs.Coin.{coin_conciliator}
 use Rattle.conciliators.specs.CoinKept.{coin_kept}
 use Rattle.conciliators.specs.Leader.{leader_conciliator}
 use Rattle.conciliators.specs.LeaderKept.{leader_kept}
-use Rattle.quorum.specs.declared.Quorum.{Quorum}
 use Rattle.quorum.specs.Ratifier.{quorum}
 use Rattle.quorum.specs.Kept.{quorum_kept}
 use Rattle.tables.specs.declared.bit_pairs.BitPairs.{BitPairs}

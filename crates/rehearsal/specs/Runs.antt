@@ -15,7 +15,6 @@ use Rattle.schedule.specs.Script.{Item, command, broken, script, tail}
 use Rattle.trial.specs.declared.call.Call.{Call}
 use Rattle.trial.specs.declared.call.Call.TheVariants.{Enter, Step, Stop}
 use Rattle.trial.specs.Trials.{new_trial}
-use Rattle.rehearsal.specs.declared.verdict.Start.{Start}
 use Rattle.rehearsal.specs.declared.verdict.Verdict.{Verdict}
 use Rattle.rehearsal.specs.declared.verdict.Verdict.TheVariants.{Ends, Halts, Refuses, Begins, Asks}
 use Rattle.rehearsal.specs.Lines.{answer_line, pile_line}

@@ -1,5 +1,5 @@
 -- The steps of both parts together stay within the joined limit, and so can be counted.
-use Rattle.std.proofs.Common.{◌≡◌, ℕ, ◌+◌, ◌≤◌, refl, arith}
+use Rattle.std.proofs.Common.{◌≡◌, ℕ, refl, arith}
 use Rattle.deciding.specs.declared.record.Record.{Record}
 use Rattle.deciding.specs.declared.record.Record.TheVariants.{Away, UnderWay, Answered}
 use Rattle.deciding.specs.Machine.{Machine}

@@ -1,5 +1,5 @@
 -- Bit pairs are a quorum table, whatever the number of pairs, if every mark has its bits within them.
-use Rattle.std.specs.Prelude.{◌≡◌, ℕ, zero, suc, ◌+◌, ◌-◌, ◌*◌, ◌^◌, ◌<◌, ◌≤◌, ◌≢◌, length, slice_index, refl}
+use Rattle.std.specs.Prelude.{◌≡◌, ℕ, zero, suc, ◌+◌, ◌*◌, ◌^◌, ◌<◌, ◌≤◌, ◌≢◌, length, slice_index, refl}
 use Rattle.std.proofs.Common.{ap, sym, ◌∙◌, lt_of_lt_of_le, add-suc, suc-add, add-zero, zero-add, arith, lit≤}
 use Rattle.tables.specs.Table.{marks, Member, RegisterSet, Lawful}
 use Rattle.tables.specs.Bits.{bit, differ}

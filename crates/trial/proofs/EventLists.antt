@@ -9,7 +9,6 @@ use Rattle.deciding.specs.Laws.{Proposes, Ends, stepped as record_after}
 use Rattle.refusal.specs.declared.Refusal.{Refusal}
 use Rattle.trial.specs.declared.call.Call.{Call}
 use Rattle.trial.specs.declared.call.Call.TheVariants.{Enter as enter, Step as step, Stop as stop}
-use Rattle.trial.specs.declared.call.Answer.{Answer}
 use Rattle.trial.specs.declared.call.Answer.TheVariants.{Refused as refused, Entered as entered, Stepped as stepped, Stopped as stopped}
 use Rattle.trial.specs.Events.{Event, ◌gives◌, Among, steps, steps_in}
 use Rattle.trial.specs.Law.{steps_of, Shows}

@@ -8,7 +8,7 @@ use Rattle.deciding.specs.Sizes.{one_to_sixteen}
 use Rattle.deciding.specs.Machine.{Machine}
 use Rattle.deciding.specs.Deciding.{Deciding}
 use Rattle.deciding.specs.Questions.{all_are_away}
-use Rattle.deciding.specs.Refusable.{refusable, RefusableReached, with_refusal, if_made, sizes_where_made}
+use Rattle.deciding.specs.Refusable.{refusable, RefusableReached, with_refusal, sizes_where_made}
 use Rattle.deciding.specs.Refusable.{refusable_deciding}
 use Rattle.trial.specs.declared.call.Call.{Call}
 use Rattle.trial.specs.Perform.{AllSmall, trial_refusal}

@@ -1,19 +1,18 @@
 -- What the three calls of a trial come to, after the trial's own questions.
-use Rattle.std.proofs.Common.{◌≡◌, ℕ, ◌<◌, Bool, true, false, cond, ltb, Some, None, Ok, Err, Option, Result, sym, refl, ap, ◌∙◌, subst, arith}
+use Rattle.std.proofs.Common.{◌≡◌, ℕ, ◌<◌, Bool, Some, None, Ok, Err, Option, Result, sym, refl, ap, ◌∙◌, subst, arith}
 use Rattle.std.proofs.lemmas.Bool.{le-ltb}
 use Rattle.refusal.specs.declared.Refusal.{Refusal}
 use Rattle.deciding.specs.declared.record.Operation.{Operation}
 use Rattle.deciding.specs.declared.record.Outcome.{Outcome}
-use Rattle.deciding.specs.declared.record.Record.TheVariants.{Away}
 use Rattle.deciding.specs.Laws.{marks}
 use Rattle.deciding.specs.Machine.{Machine}
 use Rattle.deciding.specs.Deciding.{Deciding}
-use Rattle.deciding.specs.Calls.{entry, Entering, stepping, Stepping, entering_keeps, stepping_keeps}
+use Rattle.deciding.specs.Calls.{Entering, Stepping, entering_keeps, stepping_keeps}
 use Rattle.deciding.specs.Refusable.{Refusable, refusable, with_refusal, entry_made, stepping_made}
 use Rattle.trial.specs.declared.call.Call.{Call}
 use Rattle.trial.specs.declared.call.Call.TheVariants.{Enter, Step, Stop}
 use Rattle.trial.specs.declared.call.Answer.{Answer}
-use Rattle.trial.specs.declared.call.Answer.TheVariants.{Refused, Stopped}
+use Rattle.trial.specs.declared.call.Answer.TheVariants.{Refused}
 use Rattle.trial.specs.Perform.{TrialState, Small, station_of, admission, granted, entered_as, stepped_as, Performed, admitted, unless, perform, Performs}
 
 clash : {A : Type 0} → ◌≡◌ {A = ℕ} 0 1 → A

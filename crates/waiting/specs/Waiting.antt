@@ -1,7 +1,6 @@
 -- A conciliator that only waits: so many reads of register 0, then the station adopts its own mark.
 use Rattle.std.specs.Prelude.{ℕ, ◌+◌, min, false, cond, None, nat_lt}
 use Rattle.deciding.specs.declared.record.Outcome.TheVariants.{Adopt}
-use Rattle.machine.specs.declared.status.Plan.{Plan}
 use Rattle.machine.specs.declared.status.Plan.TheVariants.{Read}
 use Rattle.machine.specs.declared.status.Turn.{Turn}
 use Rattle.machine.specs.declared.status.Turn.TheVariants.{On, End}

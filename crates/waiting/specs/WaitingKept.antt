@@ -1,8 +1,7 @@
 -- The waiting conciliator is one of those on one register that write nothing but the own mark: it writes nothing at all.
-use Rattle.std.specs.Prelude.{◌≡◌, ℕ, ◌+◌, ◌<◌, ◌≤◌, List, nat_lt, slice_index, refl}
+use Rattle.std.specs.Prelude.{◌≡◌, ℕ, ◌+◌, ◌<◌, nat_lt, slice_index, refl}
 use Rattle.std.proofs.Common.{arith, inl}
 use Rattle.std.proofs.lemmas.Bool.{cond_both, ltb-true}
-use Rattle.deciding.specs.declared.record.Outcome.TheVariants.{Adopt}
 use Rattle.machine.specs.declared.status.Turn.{Turn}
 use Rattle.machine.specs.Kept.{Kept}
 use Rattle.conciliators.specs.Adopting.{Adopting, EmptyOrMark, Leads, adopting_kept}

@@ -1,4 +1,4 @@
-use Rattle.std.proofs.Common.{◌≡◌, true, false, eqb, get_or, sym, ap, ◌∙◌}
+use Rattle.std.proofs.Common.{◌≡◌, true, false, eqb, get_or, sym}
 use Rattle.machine.proofs.Empties.{empty_more, not_empty}
 use Rattle.machine.proofs.machine.all_empty.Goals as goal
 

@@ -1,7 +1,7 @@
-use Rattle.std.proofs.Common.{◌≡◌, ℕ, ◌+◌, ◌<◌, length, sym, ap, ◌∙◌, arith}
+use Rattle.std.proofs.Common.{◌+◌, length, sym, ap, ◌∙◌, arith}
 use Rattle.std.proofs.lemmas.Bool.{leb-false}
-use Rattle.schedule.specs.Script.{Item, tail, broken}
-use Rattle.schedule.specs.Reading.{item_of, reading}
+use Rattle.schedule.specs.Script.{tail, broken}
+use Rattle.schedule.specs.Reading.{item_of}
 use Rattle.schedule.proofs.Scripts.{shown_command, shown_end}
 use Rattle.rehearsal.specs.Serving.{past}
 use Rattle.rehearsal.proofs.Judged.{judged, moved}

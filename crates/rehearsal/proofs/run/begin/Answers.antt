@@ -1,4 +1,4 @@
-use Rattle.std.proofs.Common.{◌≡◌, drop, sym, ap, ◌∙◌, subst}
+use Rattle.std.proofs.Common.{drop, subst}
 use Rattle.schedule.specs.Script.{script}
 use Rattle.trial.specs.Trials.{tried}
 use Rattle.rehearsal.specs.Serving.{Final, Arrives}

@@ -1,7 +1,7 @@
-use Rattle.std.proofs.Common.{◌≡◌, ap, ◌∙◌}
+use Rattle.std.proofs.Common.{ap, ◌∙◌}
 use Rattle.board.specs.Cards.{contents_of}
 use Rattle.schedule.specs.declared.pile.Pile.TheVariants as name
-use Rattle.rehearsal.specs.Piles.{Built, cells, card, collect_pile, coin_pile, leader_pile, bit_pairs_pile, half_sets_pile, in_sequence, built}
+use Rattle.rehearsal.specs.Piles.{cells, collect_pile, coin_pile, leader_pile, bit_pairs_pile, half_sets_pile, in_sequence, built}
 use Rattle.rehearsal.proofs.Begins.{pile_arrives, sequence_start, named}
 use Rattle.rehearsal.proofs.run.renew.Goals as goal
 

@@ -1,4 +1,4 @@
-use Rattle.std.proofs.Common.{◌≡◌, ℕ, ◌+◌, ◌≤◌, List, length, sym, ap, ◌∙◌, subst, arith, Bor}
+use Rattle.std.proofs.Common.{ℕ, ◌+◌, ◌≤◌, List, length, ap, ◌∙◌, subst, arith, Bor}
 use Rattle.listing.specs.declared.line.Line.{Line}
 use Rattle.listing.specs.Over.{over}
 use Rattle.listing.specs.Lines.{text}

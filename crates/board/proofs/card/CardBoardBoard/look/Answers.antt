@@ -1,4 +1,4 @@
-use Rattle.std.proofs.Common.{refl, arith, rules}
+use Rattle.std.proofs.Common.{arith, rules}
 use Rattle.board.proofs.CardLists.{length-contents, get_or-contents}
 use Rattle.board.proofs.card.CardBoardBoard.look.Goals as goal
 
