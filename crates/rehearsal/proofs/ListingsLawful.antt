@@ -304,13 +304,16 @@ record Counted (xs : List Item) (r : Report) : Type 0 where
   at_most : length r.lines ≤ length xs
   each : r.ended ≡ None → length r.lines ≡ length xs
 
+one_more_counted : (i : Item) (is : List Item) (l : Line) (size : ℕ) (r : Report) → Counted is r → Counted (i ∷ is) (record { lines = l ∷ r.lines; consumed = size + r.consumed; ended = r.ended })
+one_more_counted i is l size r h = record { at_most = omega (arith, h.at_most); each = λ e. omega (arith, h.each e) }
+
 done_counted : (i : Item) (is : List Item) → ((room : ℕ) (st : Responder) → Counted is (report is room st)) → (room : ℕ) (st : Responder) (v : Verdict) → JudgedAs i v →
     Counted (i ∷ is) (reported (done v st) (1 + tail i) room (report is))
 done_counted i is rest room st (Ends q) j = record { at_most = omega arith; each = λ e. clash cc }
 done_counted i is rest room st (Halts q) j = record { at_most = omega arith; each = λ e. clash cc }
-done_counted i is rest room st (Refuses q) j = let r = rest _ st in record { at_most = omega (arith, r.at_most); each = λ e. omega (arith, r.each e) }
-done_counted i is rest room st (Begins u) j = let r = rest _ _ in record { at_most = omega (arith, r.at_most); each = λ e. omega (arith, r.each e) }
-done_counted i is rest room st (Asks c) j = let r = rest _ _ in record { at_most = omega (arith, r.at_most); each = λ e. omega (arith, r.each e) }
+done_counted i is rest room st (Refuses q) j = one_more_counted i is _ _ _ (rest _ st)
+done_counted i is rest room st (Begins u) j = one_more_counted i is _ _ _ (rest _ _)
+done_counted i is rest room st (Asks c) j = one_more_counted i is _ _ _ (rest _ _)
 
 counted : (xs : List Item) (room : ℕ) (st : Responder) → Counted xs (report xs room st)
 counted [] room st = record { at_most = omega arith; each = λ e. refl }

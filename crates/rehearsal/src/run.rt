@@ -5,6 +5,7 @@ ghost use Rattle.refusal.specs.Numbers.{number_or_zero};
 ghost use Rattle.schedule.specs.Script.{script};
 ghost use Rattle.rehearsal.specs.Lines.{answer_line, listed};
 ghost use Rattle.rehearsal.specs.Agreement.{Agreement};
+ghost use Rattle.rehearsal.specs.Listings.{LawfulRun};
 ghost use Rattle.rehearsal.specs.Piles.{PilesMade};
 ghost use Rattle.rehearsal.specs.Responders.{in_state};
 ghost use Rattle.rehearsal.specs.Runs.{run_of};
@@ -49,7 +50,8 @@ pub struct Ran {
 // Its meaning is the definition `run_of`: the lines, the bytes consumed and the ending are those of the abstract
 // machines, and the listing holds the text of the lines and after it what it held before. `made` says that every N
 // which passes its questions has its trial, and `lawful` is the whole promise about runs: whatever calls are put to a
-// trial, of the six piles and of whatever can be made of the machines, they obey the law.
+// trial, of the six piles and of whatever can be made of the machines, they obey the law. `tells` says the same of the
+// lines of this run: from the line of one pile to that of the next they tell of one trial, whose calls obey the law.
 pub fn run(schedule: &[u8], listing: &mut [u8]) -> Ran
     ensures bytes { listing.new ≡ listed (run_of schedule.now (length listing.old)).lines
         ++ drop (length (listed (run_of schedule.now (length listing.old)).lines)) listing.old }
@@ -59,6 +61,7 @@ pub fn run(schedule: &[u8], listing: &mut [u8]) -> Ran
     ensures bounds { (result.consumed ≤ length schedule.now) × (result.written ≤ length listing.new) × (number_or_zero result.ended ≤ 4) }
     ensures made { PilesMade }
     ensures lawful { Agreement }
+    ensures tells { LawfulRun schedule.now (run_of schedule.now (length listing.old)) }
 {
     if schedule.len() > LONGEST {
         return Ran {

@@ -14,11 +14,10 @@ pub trait QuorumTable {
     // The sizes and the sets.
     ghost table: { Table };
 
-    // What holds of them, with its proof. It is a member and not a `law`, since a trait with a `law` cannot be implemented for a
-    // type with a lifetime.
+    // What holds of them, with its proof.
     ghost lawful: { Lawful table };
 
-    // A contract cannot name a constant of a type parameter. So generic code reads each one by a function, whose contract it knows.
+    // Generic code reads each constant by a function, whose contract says which number of the table it is.
     fn pool_size() -> u16
         ensures { result ≡ table.pool_size };
 

@@ -8,6 +8,7 @@ use Rattle.rehearsal.specs.Lines.{listed}
 use Rattle.rehearsal.specs.Responders.{no_trial}
 use Rattle.rehearsal.specs.Serving.{Arrives, finish}
 use Rattle.rehearsal.proofs.Bounds.{run_bounded}
+use Rattle.rehearsal.proofs.ListingsLawful.{run_lawful}
 use Rattle.rehearsal.proofs.PilesLawful.{agreement}
 use Rattle.rehearsal.proofs.PilesMade.{piles_made}
 use Rattle.rehearsal.proofs.Reports.{ran, within}
@@ -34,6 +35,7 @@ returns-in-Ended c =
       bounds = (omega (arith, at, r.consumed, b.consumed), within _ _ _ _ r.bytes r.written, subst (λ (e : Option Refusal). number_or_zero e ≤ 4) (sym r.ended) b.ended);
       made = piles_made;
       lawful = agreement;
+      tells = run_lawful bs (length bytes) (λ i. omega (arith, c.type_inv.schedule i));
     }
 
 pub returns-then-schedule-gt-LONGEST : goal.returns-then-schedule-gt-LONGEST
@@ -41,4 +43,5 @@ unfolding listed
 returns-then-schedule-gt-LONGEST c =
     let l = agreement in
     let m = piles_made in
-    record { bytes = search rules; consumed = search rules; written = search rules; ended = search rules; bounds = search rules; made = m; lawful = l }
+    let t = run_lawful c.args.schedule.now (length c.args.listing.now) (λ i. omega (arith, c.type_inv.schedule i)) in
+    record { bytes = search rules; consumed = search rules; written = search rules; ended = search rules; bounds = search rules; made = m; lawful = l; tells = t }
