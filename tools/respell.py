@@ -53,7 +53,7 @@ def spelled(name):
     if name in TAKEN:
         return TAKEN[name]
     if name[0].isupper():
-        return "".join(p[:1].upper() + p[1:] for p in name.split("-"))
+        return "".join(p[:1].upper() + p[1:] for p in re.split("[-_]", name))
     m = re.match(r"(getD|length)[-_](.+)$", name)
     if m:
         return WORDS[m[1]] + "-" + m[2].replace("-", "_")
@@ -77,7 +77,9 @@ def declared():
                 mine.update(pattern.findall(text))
             for m in PAIR.finditer(text):
                 mine.update(w.strip() for w in m[1].split(","))
-    return {n for n in mine - others if re.fullmatch(NAME, n) or n.startswith("getD_")}
+    # what port.py left half way: a word of an older library in a lemma's name, and a type in snake case
+    half = re.compile(r"(?:getD|length)_\w+|[A-Z][a-z]\w*_\w+")
+    return {n for n in mine - others if re.fullmatch(NAME, n) or half.fullmatch(n)}
 
 
 def main():

@@ -3,7 +3,7 @@ use Rattle.std.proofs.Common.{◌≡◌, ℕ, ◌+◌, ◌/◌, ◌%◌, ◌^◌
 use Rattle.std.proofs.lemmas.List.{length_push}
 use Rattle.std.proofs.lemmas.Fmt.{decimal_digit, decimal_step}
 use Rattle.listing.specs.Over.{over}
-use Rattle.listing.proofs.Overs.{length_over, over_append, over_set}
+use Rattle.listing.proofs.Overs.{length-over, over_append, over_set}
 
 pub one_digit : (n : ℕ) → n < 10 → length (decimal n) ≡ 1
 one_digit n h = ap length (decimal_digit n h)
@@ -20,7 +20,7 @@ over_last bs mid at end n h l room m e =
     let ds = decimal (n / 10) in
     let x = 48 + n % 10 in
     let more = more_digits n h l in
-    let whole = length_over bs at ds (omega arith) in
+    let whole = length-over bs at ds (omega arith) in
     ap (λ s. set s end x) m
     ∙ ap (λ k. set (over bs at ds) k x) e
     ∙ over_set (over bs at ds) (at + length ds) x (omega arith)

@@ -18,8 +18,8 @@ pub length-over_any : (bs : List ℕ) (at : ℕ) (ds : List ℕ) → at ≤ leng
 unfolding over
 length-over_any bs at ds h = let t = length-take-le at bs h in simp (length-append, length-drop) (omega arith)
 
-pub length_over : (bs : List ℕ) (at : ℕ) (ds : List ℕ) → at + length ds ≤ length bs → length (over bs at ds) ≡ length bs
-length_over bs at ds h = omega (arith, length-over_any bs at ds (omega arith))
+pub length-over : (bs : List ℕ) (at : ℕ) (ds : List ℕ) → at + length ds ≤ length bs → length (over bs at ds) ≡ length bs
+length-over bs at ds h = omega (arith, length-over_any bs at ds (omega arith))
 
 -- one piece after another
 pub over_append : (bs : List ℕ) (at : ℕ) (a b : List ℕ) → at ≤ length bs → over (over bs at a) (at + length a) b ≡ over bs at (a ++ b)
@@ -52,7 +52,7 @@ pub over_word : (bs : List ℕ) (at : ℕ) (a : List ℕ) (x : ℕ) (rest mid : 
 over_word bs at a x rest mid e m p h =
     let len = length-append a (x ∷ rest) in
     let one : length (x ∷ rest) ≡ length rest + 1 = omega arith in
-    let whole : length (over bs at a) ≡ length bs = length_over bs at a (omega arith) in
+    let whole : length (over bs at a) ≡ length bs = length-over bs at a (omega arith) in
     let n = at + length a in
     sym (over_append bs at a (x ∷ rest) (omega arith))
     ∙ sym (over_append (over bs at a) n (x ∷ []) rest (omega arith))

@@ -35,12 +35,12 @@ abbrev pub Judges : List ℕ → ℕ → ℕ → Verdict → ℕ → Type 0
 Judges bs p room r q = (r ≡ judging bs p room) × (q ≡ past r p (1 + tail (reading bs p)))
 
 -- a command that can be read does not end the run
-abbrev pub Goes_on : Verdict → Type 0
-Goes_on (Ends q) = ⊥
-Goes_on (Halts q) = ⊥
-Goes_on (Refuses q) = Unit {0}
-Goes_on (Begins u) = Unit {0}
-Goes_on (Asks c) = Unit {0}
+abbrev pub GoesOn : Verdict → Type 0
+GoesOn (Ends q) = ⊥
+GoesOn (Halts q) = ⊥
+GoesOn (Refuses q) = Unit {0}
+GoesOn (Begins u) = Unit {0}
+GoesOn (Asks c) = Unit {0}
 
 -- a command with a line finds room for it, and one that does not end the run is passed
 abbrev pub Moves : ℕ → ℕ → ℕ → Verdict → ℕ → Type 0

@@ -1,7 +1,7 @@
 ghost use Rattle.std.specs.Prelude.{◌≡◌, ℕ, length, slice_index};
 ghost use Rattle.schedule.specs.Reading.{item_of};
 ghost use Rattle.rehearsal.specs.Runs.{new_verdict, item_verdict};
-ghost use Rattle.rehearsal.specs.Serving.{Judges, Moves, Goes_on};
+ghost use Rattle.rehearsal.specs.Serving.{Judges, Moves, GoesOn};
 
 use super::verdict::{Start, Verdict};
 use deciding::questions::one_to_sixteen;
@@ -35,7 +35,7 @@ pub(super) fn judge(reader: &mut Reader, room: usize) -> Verdict
 
 fn judge_command(command: Command) -> Verdict
     ensures judges { result ≡ item_verdict (item_of command.entry) }
-    ensures goes { Goes_on result }
+    ensures goes { GoesOn result }
 {
     match command {
         Command::New(operands) => judge_new(
@@ -67,7 +67,7 @@ fn operand(operands: &[u8], at: usize) -> u8
 // Is there such a pile, is the number of stations 1 to 16, is the leader one of them?
 fn judge_new(pile: u8, stations: u8, leader: u8) -> Verdict
     ensures judges { result ≡ new_verdict pile stations leader }
-    ensures goes { Goes_on result }
+    ensures goes { GoesOn result }
 {
     match Pile::named(pile) {
         Ok(pile) => {
