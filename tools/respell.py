@@ -4,8 +4,8 @@ snake case, types and facts in camel case. A dash stays only where it joins two 
 
 usage: tools/respell.py        at the top of the repository, after /opt/rattle/port/port.py and before any edit by hand
 
-Only names that the files themselves declare are touched, in .antt files and in the clauses of .rt files; comments,
-code, strings and the names that Rattle or its library make stay. Files are rewritten in place.
+Only names that the files themselves declare are touched; comments and the names that Rattle or its library make stay. In
+a .rt file whole lines are read, but code and strings there have no name with a dash. Files are rewritten in place.
 """
 
 import os

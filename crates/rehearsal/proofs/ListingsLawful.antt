@@ -1,7 +1,7 @@
 -- The law of listings, of every run: line by line, by what its command was judged to be.
-use Rattle.std.proofs.Common.{◌≡◌, ℕ, zero, suc, ◌+◌, ◌<◌, ◌≤◌, Bool, true, false, eqb, ltb, leb, List, [], ◌∷◌, ◌++◌, length, get_or, take, Some, None, Ok, Err, Option, Result, sym, refl, ap, ◌∙◌, subst, inl, inr, arith}
+use Rattle.std.proofs.Common.{◌≡◌, ◌≢◌, ℕ, zero, suc, ◌+◌, ◌<◌, ◌≤◌, Bool, true, false, eqb, ltb, leb, List, [], ◌∷◌, ◌++◌, length, get_or, take, Some, None, Ok, Err, Option, Result, sym, refl, ap, ◌∙◌, subst, inl, inr, arith}
 use Rattle.std.proofs.lemmas.List.{get_or-take}
-use Rattle.std.proofs.lemmas.Bool.{cond_both, and_parts, leb-true, ltb-true, eqb-true, true≢false}
+use Rattle.std.proofs.lemmas.Bool.{cond_both, and_parts, leb-true, le-leb, ltb-true, ltb-false, eqb-true, eq-eqb, true≢false}
 use Rattle.refusal.specs.declared.Refusal.{Refusal}
 use Rattle.refusal.specs.declared.Refusal.TheVariants.{ListingFull, NoPile}
 use Rattle.deciding.specs.Laws.{marks}
@@ -11,7 +11,8 @@ use Rattle.deciding.specs.Sizes.{one_to_sixteen}
 use Rattle.listing.specs.declared.line.Line.{Line}
 use Rattle.listing.specs.declared.line.Line.TheVariants as line
 use Rattle.schedule.specs.declared.pile.Pile.{Pile}
-use Rattle.schedule.specs.Piles.{number_of_pile, pile_numbered}
+use Rattle.schedule.specs.declared.pile.Pile.TheVariants as name
+use Rattle.schedule.specs.Piles.{number_of_pile, pile_numbered, Names}
 use Rattle.schedule.specs.Script as script
 use Rattle.schedule.specs.Script.{Kind, Item, command, broken, operands, with_operands, item, tail, items, script}
 use Rattle.trial.specs.declared.call.Call.{Call}
@@ -26,11 +27,11 @@ use Rattle.trial.proofs.Makings.{lawful_trial, trial_reached, trial_away}
 use Rattle.rehearsal.specs.declared.verdict.Verdict.{Verdict}
 use Rattle.rehearsal.specs.declared.verdict.Verdict.TheVariants.{Ends, Halts, Refuses, Begins, Asks}
 use Rattle.rehearsal.specs.Lines.{answer_line}
-use Rattle.rehearsal.specs.Listings.{Listed, ◌got◌, beside, call_of, TellsOf, Tells, is_pile, WithoutPile, AsksFor, TurnedAway, OneTrial, LawfulListing, LawfulRun}
-use Rattle.rehearsal.specs.Piles.{Built, built, ReadyPile}
+use Rattle.rehearsal.specs.Listings.{Listed, ◌got◌, beside, call_of, TurnsDown, TellsOf, Tells, is_pile, WithoutPile, AsksFor, TurnedAway, OneTrial, LawfulListing, LawfulRun}
+use Rattle.rehearsal.specs.Piles.{Built, built}
 use Rattle.rehearsal.specs.Responders.{Heard, Responder, in_state, refuses_all, no_trial, performs}
 use Rattle.rehearsal.specs.Runs.{start_verdict, item_verdict, verdict, done, Report, reported, report, run_of}
-use Rattle.rehearsal.proofs.PilesMade.{piles_ready}
+use Rattle.rehearsal.proofs.PilesMade.{ReadyPile, piles_ready}
 
 clash : {A : Type 0} → ◌≡◌ {A = ℕ} 0 1 → A
 clash e = absurd (omega arith)
@@ -39,38 +40,50 @@ clash e = absurd (omega arith)
 
 abbrev JudgedAs : Item → Verdict → Type 0
 JudgedAs x (Ends q) = q ≡ Some ListingFull
-JudgedAs x (Halts q) = call_of x ≡ None
-JudgedAs x (Refuses q) = call_of x ≡ None
+JudgedAs x (Halts q) = (call_of x ≡ None) × TurnsDown x q
+JudgedAs x (Refuses q) = (call_of x ≡ None) × TurnsDown x q
 JudgedAs x (Begins u) = AsksFor x u.pile u.stations × (one_to_sixteen u.stations ≡ true) × (ltb u.leader u.stations ≡ true)
 JudgedAs x (Asks c) = call_of x ≡ Some c
 
-abbrev Numbered : ℕ → Result Pile Refusal → Type 0
-Numbered n (Ok p) = number_of_pile p ≡ n
-Numbered n (Err e) = Unit {0}
+unknown : (n : ℕ) → eqb n 1 ≡ false → eqb n 2 ≡ false → eqb n 3 ≡ false → eqb n 4 ≡ false → eqb n 5 ≡ false → eqb n 6 ≡ false → (p : Pile) → number_of_pile p ≢ n
+unknown n a b c d e f name.Collect h = true≢false (sym (eq-eqb n 1 (sym h)) ∙ a)
+unknown n a b c d e f name.Quorum h = true≢false (sym (eq-eqb n 2 (sym h)) ∙ b)
+unknown n a b c d e f name.CoinCollect h = true≢false (sym (eq-eqb n 3 (sym h)) ∙ c)
+unknown n a b c d e f name.LeaderQuorum h = true≢false (sym (eq-eqb n 4 (sym h)) ∙ d)
+unknown n a b c d e f name.CollectCoinQuorum h = true≢false (sym (eq-eqb n 5 (sym h)) ∙ e)
+unknown n a b c d e f name.QuorumLeaderCoinCollect h = true≢false (sym (eq-eqb n 6 (sym h)) ∙ f)
 
-numbered : (n : ℕ) → Numbered n (pile_numbered n)
-numbered n =
+names : (n : ℕ) → Names n (pile_numbered n)
+names n =
     let named : (k : ℕ) → eqb n k ≡ true → k ≡ n = λ k h. sym (eqb-true n k h) in
-    cond_both (eqb n 1) _ _ (Numbered n) (named 1)
-    (λ _. cond_both (eqb n 2) _ _ (Numbered n) (named 2)
-    (λ _. cond_both (eqb n 3) _ _ (Numbered n) (named 3)
-    (λ _. cond_both (eqb n 4) _ _ (Numbered n) (named 4)
-    (λ _. cond_both (eqb n 5) _ _ (Numbered n) (named 5)
-    (λ _. cond_both (eqb n 6) _ _ (Numbered n) (named 6) (λ _. tt))))))
+    cond_both (eqb n 1) _ _ (Names n) (named 1)
+    (λ a. cond_both (eqb n 2) _ _ (Names n) (named 2)
+    (λ b. cond_both (eqb n 3) _ _ (Names n) (named 3)
+    (λ c. cond_both (eqb n 4) _ _ (Names n) (named 4)
+    (λ d. cond_both (eqb n 5) _ _ (Names n) (named 5)
+    (λ e. cond_both (eqb n 6) _ _ (Names n) (named 6) (λ f. (unknown n a b c d e f, refl)))))))
 
-start_judged : (ops : List ℕ) (r : Result Pile Refusal) → Numbered (get_or ops 0 0) r → JudgedAs (command script.new ops) (start_verdict r (get_or ops 1 0) (get_or ops 2 0))
-start_judged ops (Err e) h = refl
+in_size : (n : ℕ) → 1 ≤ n → n ≤ 16 → one_to_sixteen n ≡ true
+in_size n some few = rw (le-leb 1 n some, le-leb n 16 few) refl
+
+start_judged : (ops : List ℕ) (r : Result Pile Refusal) → Names (get_or ops 0 0) r → JudgedAs (command script.new ops) (start_verdict r (get_or ops 1 0) (get_or ops 2 0))
+start_judged ops (Err e) h = (refl, subst (λ (q : Refusal). TurnsDown (command script.new ops) q) (sym h.1) h.0)
 start_judged ops (Ok p) h =
     let n = get_or ops 1 0 in
     let leader = get_or ops 2 0 in
     let J : Verdict → Type 0 = JudgedAs (command script.new ops) in
     cond_both (one_to_sixteen n) _ _ J
-    (λ few. cond_both (ltb leader n) _ _ J (λ led. ((h, refl, leb-true n 16 (and_parts (leb 1 n) (leb n 16) few).1, ltb-true leader n led), few, led)) (λ _. refl))
-    (λ _. refl)
+    (λ counted.
+    let some = leb-true 1 n (and_parts (leb 1 n) (leb n 16) counted).0 in
+    let few = leb-true n 16 (and_parts (leb 1 n) (leb n 16) counted).1 in
+    cond_both (ltb leader n) _ _ J
+    (λ led. ((h, refl, few, ltb-true leader n led), counted, led))
+    (λ none. (refl, (p, h, some, few, ltb-false leader n none))))
+    (λ none. (refl, (p, h, λ some few. true≢false (sym (in_size n some few) ∙ none))))
 
 item_judged : (x : Item) → JudgedAs x (item_verdict x)
-item_judged (broken q) = refl
-item_judged (command script.new ops) = start_judged ops (pile_numbered (get_or ops 0 0)) (numbered (get_or ops 0 0))
+item_judged (broken q) = (refl, refl)
+item_judged (command script.new ops) = start_judged ops (pile_numbered (get_or ops 0 0)) (names (get_or ops 0 0))
 item_judged (command script.enter ops) = refl
 item_judged (command script.step ops) = refl
 item_judged (command script.stop ops) = refl
@@ -166,9 +179,11 @@ module _ {S : Type 0} (f : S → Call → Heard S) where
   no_calls x [] after e = record { calls = []; small = tt; told = refl }
   no_calls x (p ∷ ps) after e = nil_cons e
 
-  no_call : (x : S) (y : Item) (k : Line) (ps : List Listed) → call_of y ≡ None → Stretch x ps → Stretch x ((y got k) ∷ ps)
-  no_call x y k ps none s =
-      record { calls = s.calls; small = s.small; told = subst (λ (o : Option Call). TellsOf o k (Tells ps) (events_of s.calls (heard x s.calls))) (sym none) s.told }
+  no_call : (x : S) (i y : Item) (k : Line) (q : Refusal) (ps : List Listed) → y ≡ i → k ≡ line.Refused q → (call_of i ≡ None) × TurnsDown i q → Stretch x ps → Stretch x ((y got k) ∷ ps)
+  no_call x i y k q ps is shown down s =
+      let events = events_of s.calls (heard x s.calls) in
+      let here = subst (λ (z : Item). TurnsDown z q) (sym is) down.1 in
+      record { calls = s.calls; small = s.small; told = subst (λ (o : Option Call). TellsOf o y k (Tells ps) events) (sym (ap call_of is ∙ down.0)) (q, shown, here, s.told) }
 
   one_call : (x : S) (y : Item) (k : Line) (ps : List Listed) (c : Call) → call_of y ≡ Some c → Small c → k ≡ answer_line c (f x c).answer → Stretch (f x c).next ps → Stretch x ((y got k) ∷ ps)
   one_call x y k ps c is small line s =
@@ -176,7 +191,7 @@ module _ {S : Type 0} (f : S → Call → Heard S) where
       record {
         calls = c ∷ s.calls;
         small = (small, s.small);
-        told = subst (λ (o : Option Call). TellsOf o k (Tells ps) ((c gives (f x c).answer) ∷ events_of s.calls after)) (sym is) ((f x c).answer, events_of s.calls after, line, refl, s.told);
+        told = subst (λ (o : Option Call). TellsOf o y k (Tells ps) ((c gives (f x c).answer) ∷ events_of s.calls after)) (sym is) ((f x c).answer, events_of s.calls after, line, refl, s.told);
       }
 
   abbrev Stretches : List Item → Type 0
@@ -187,10 +202,10 @@ module _ {S : Type 0} (f : S → Call → Heard S) where
   one_line i is small rest room x y k ps after (Ends q) j e none = nil_cons e
   one_line i is small rest room x y k ps after (Halts q) j e none =
       let h = same i _ _ y k (ps ++ after) e in
-      no_call x y k ps (ap call_of h.items ∙ j) (no_calls x ps after h.rest)
+      no_call x i y k q ps h.items h.lines j (no_calls x ps after h.rest)
   one_line i is small rest room x y k ps after (Refuses q) j e none =
       let h = same i _ _ y k (ps ++ after) e in
-      no_call x y k ps (ap call_of h.items ∙ j) (rest _ x ps after h.rest none.1)
+      no_call x i y k q ps h.items h.lines j (rest _ x ps after h.rest none.1)
   one_line i is small rest room x y k ps after (Begins u) j e none =
       let h = same i _ _ y k (ps ++ after) e in
       absurd (true≢false (sym (ap is_pile h.lines) ∙ none.0))

@@ -27,8 +27,10 @@ use Rattle.tables.specs.BitPairs.{bit_pairs}
 use Rattle.tables.specs.BitPairsLawful.{bit_pairs_lawful}
 use Rattle.tables.specs.HalfSets.{half_sets}
 use Rattle.tables.specs.HalfSetsLawful.{half_sets_lawful}
+use Rattle.schedule.specs.declared.pile.Pile.{Pile}
 use Rattle.schedule.specs.declared.pile.Pile.TheVariants as name
-use Rattle.rehearsal.specs.Piles.{Built, one_machine, in_sequence, cells, card, collect_pile, coin_pile, leader_pile, bit_pairs_pile, half_sets_pile, built, PilesMade, ReadyPile, PilesReady}
+use Rattle.trial.specs.Perform.{trial_refusal}
+use Rattle.rehearsal.specs.Piles.{Built, one_machine, in_sequence, cells, card, collect_pile, coin_pile, leader_pile, bit_pairs_pile, half_sets_pile, built, PilesMade}
 
 -- a pile was made with n stations, ratifying or not, at most so many steps and registers, and all its records are away
 record Ready (n limit registers : ℕ) (ratifying : Bool) (d : Built) : Type 0 where
@@ -37,6 +39,12 @@ record Ready (n limit registers : ℕ) (ratifying : Bool) (d : Built) : Type 0 w
   short : d.machine.limit d.start ≤ limit
   narrow : d.machine.registers d.start ≤ registers
   away : (s : ℕ) → d.machine.record_of d.start s ≡ Away
+
+-- a pile was made of n stations, and its trial too; it is ratifying
+pub record ReadyPile (n : ℕ) (d : Built) : Type 0 where
+  pub made : trial_refusal d.machine d.start ≡ None
+  pub stations : d.machine.stations d.start ≡ n
+  pub ratifying : d.machine.ratifying d.start ≡ true
 
 one_ready : {Setup Phase : Type 0} (p : Protocol Setup Phase) {Meets : Phase → ℕ → Type 0} (kept : Kept p Meets) (u : Setup) (xs : List ℕ) (limit registers : ℕ) →
     refusal_of p u xs ≡ None → p.limit u ≤ limit → p.registers u ≤ registers → Ready (p.stations u) limit registers p.ratifying (one_machine p kept u xs)
@@ -118,7 +126,7 @@ card_empty : card ≡ replicate 17 0
 unfolding contents_of
 card_empty = refl
 
-pub piles_ready : PilesReady
+pub piles_ready : (p : Pile) (n leader : ℕ) → one_to_sixteen n ≡ true → ltb leader n ≡ true → ReadyPile n (built p n leader)
 unfolding built
 piles_ready name.Collect n leader few led = trial_ready n few (collect_pile n) 34 32 (collect_ready n few)
 piles_ready name.Quorum n leader few led =

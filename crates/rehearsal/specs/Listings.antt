@@ -1,8 +1,9 @@
 -- THE LAW OF LISTINGS: what the lines of a run tell, read beside the commands that they belong to, whatever the schedule is.
 -- From the line of a pile to that of the next one they tell of one trial, and its calls and answers obey the law of runs
 -- (Law.antt of the crate trial). Nothing here speaks of machines, boards or sequences.
-use Rattle.std.specs.Prelude.{◌≡◌, ℕ, ◌<◌, ◌≤◌, Bool, true, false, List, [], ◌∷◌, ◌++◌, length, Some, None, Option, slice_index}
-use Rattle.refusal.specs.declared.Refusal.TheVariants.{NoPile}
+use Rattle.std.specs.Prelude.{◌≡◌, ◌≢◌, ℕ, ◌<◌, ◌≤◌, Bool, true, false, List, [], ◌∷◌, ◌++◌, length, Some, None, Option, slice_index}
+use Rattle.refusal.specs.declared.Refusal.{Refusal}
+use Rattle.refusal.specs.declared.Refusal.TheVariants.{UnknownPile, StationCount, LeaderOutOfRange, NoPile}
 use Rattle.deciding.specs.declared.record.Record.{Record}
 use Rattle.listing.specs.declared.line.Line.{Line}
 use Rattle.listing.specs.declared.line.Line.TheVariants as line
@@ -30,7 +31,7 @@ beside [] xs = []
 beside (l ∷ ls) [] = []
 beside (l ∷ ls) (x ∷ xs) = (x got l) ∷ beside ls xs
 
--- the call that a command makes; an N makes none
+-- the call that a command makes; an N makes none, nor does what cannot be read
 abbrev pub call_of : Item → Option Call
 call_of (broken q) = None
 call_of (command script.new ops) = None
@@ -38,14 +39,29 @@ call_of (command script.enter ops) = Some (Enter (slice_index ops 0) (slice_inde
 call_of (command script.step ops) = Some (Step (slice_index ops 0) (slice_index ops 1))
 call_of (command script.stop ops) = Some (Stop (slice_index ops 0))
 
--- the events that lines tell: each call, with the answer whose line it got
-abbrev pub TellsOf : Option Call → Line → (List Event → Type 0) → List Event → Type 0
-TellsOf None l Rest events = Rest events
-TellsOf (Some c) l Rest events = (a : Answer) × (later : List Event) × (l ≡ answer_line c a) × (events ≡ (c gives a) ∷ later) × Rest later
+-- an N for the pile p with n stations is refused by the first of its questions that is answered no
+abbrev pub RefusesNew : ℕ → ℕ → ℕ → Refusal → Type 0
+RefusesNew p n leader UnknownPile = (r : Pile) → number_of_pile r ≢ p
+RefusesNew p n leader StationCount = (r : Pile) × (number_of_pile r ≡ p) × (1 ≤ n → n ≤ 16 → ⊥)
+RefusesNew p n leader LeaderOutOfRange = (r : Pile) × (number_of_pile r ≡ p) × (1 ≤ n) × (n ≤ 16) × (n ≤ leader)
+RefusesNew p n leader _ = ⊥
+
+-- a command that makes no call is refused: one that cannot be read by what it lacks, an N by a question of its own
+abbrev pub TurnsDown : Item → Refusal → Type 0
+TurnsDown (broken q) r = r ≡ q
+TurnsDown (command script.new ops) r = RefusesNew (slice_index ops 0) (slice_index ops 1) (slice_index ops 2) r
+TurnsDown (command script.enter ops) r = ⊥
+TurnsDown (command script.step ops) r = ⊥
+TurnsDown (command script.stop ops) r = ⊥
+
+-- the events that lines tell, where none is a pile's: each call, with the answer whose line it got
+abbrev pub TellsOf : Option Call → Item → Line → (List Event → Type 0) → List Event → Type 0
+TellsOf None x l Rest events = (r : Refusal) × (l ≡ line.Refused r) × TurnsDown x r × Rest events
+TellsOf (Some c) x l Rest events = (a : Answer) × (later : List Event) × (l ≡ answer_line c a) × (events ≡ (c gives a) ∷ later) × Rest later
 
 abbrev pub Tells : List Listed → List Event → Type 0
 Tells [] events = events ≡ []
-Tells ((x got l) ∷ rest) events = TellsOf (call_of x) l (Tells rest) events
+Tells ((x got l) ∷ rest) events = TellsOf (call_of x) x l (Tells rest) events
 
 -- is it the line of a new pile?
 abbrev pub is_pile : Line → Bool
@@ -89,7 +105,8 @@ pub record LawfulListing (lines : List Listed) : Type 0 where
   pub trials : (before trial after : List Listed) (x : Item) (p : Pile) (n limit registers : ℕ) →
       lines ≡ before ++ ((x got line.Pile p n limit registers) ∷ (trial ++ after)) → WithoutPile trial → AsksFor x p n × OneTrial n limit registers trial
 
--- a run that nothing ended before the end of its schedule has a line for each command
+-- The lines of a run are lawful beside the commands of its schedule. It has no more lines than these, and one for each if nothing
+-- ended it before the end. What a pile's line shows as limit and registers is a bound that the trial keeps.
 pub record LawfulRun (schedule : List ℕ) (r : Report) : Type 0 where
   pub listing : LawfulListing (beside r.lines (script schedule))
   pub at_most : length r.lines ≤ length (script schedule)

@@ -92,12 +92,3 @@ PilesLawful = (p : Pile) (n leader : ℕ) (calls : List Call) → AllSmall calls
 abbrev pub PilesMade : Type 0
 PilesMade = (p : Pile) (n leader : ℕ) → one_to_sixteen n ≡ true → nat_lt leader n ≡ true →
     let d = built p n leader in (trial_refusal d.machine d.start ≡ None) × (d.machine.stations d.start ≡ n)
-
--- a pile was made of n stations, and its trial too; it is ratifying
-pub record ReadyPile (n : ℕ) (d : Built) : Type 0 where
-  pub made : trial_refusal d.machine d.start ≡ None
-  pub stations : d.machine.stations d.start ≡ n
-  pub ratifying : d.machine.ratifying d.start ≡ true
-
-abbrev pub PilesReady : Type 0
-PilesReady = (p : Pile) (n leader : ℕ) → one_to_sixteen n ≡ true → nat_lt leader n ≡ true → ReadyPile n (built p n leader)
