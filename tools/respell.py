@@ -28,7 +28,7 @@ GOAL = re.compile(r"\bgoal\.([\w'\-+≤<≡ℕ]+)")
 IMPORT = re.compile(r"^\s*(?:pub\s+)?(?:ghost\s+)?use\s+(?!Rattle\.(?!std\b))\S+\.\{([^}]*)\}", re.M)
 COMMENT = {".antt": re.compile(r"(^|\s)--(\s.*)?$"), ".rt": re.compile(r"//.*$")}
 # a lemma on a word: the word's name, a dash, and what it is applied to
-WORDS = {"getD": "get_or", "length": "length"}
+WORDS = {"getD": "get_or", "get_d": "get_or", "length": "length"}
 # names that would fall together: with a variant of the same file, and with a word of the library
 TAKEN = {"No-pile": "WithoutPile", "ones-in": "ones_in-ones"}
 
@@ -54,7 +54,7 @@ def spelled(name):
         return TAKEN[name]
     if name[0].isupper():
         return "".join(p[:1].upper() + p[1:] for p in re.split("[-_]", name))
-    m = re.match(r"(getD|length)[-_](.+)$", name)
+    m = re.match(r"(getD|get_d|length)[-_](.+)$", name)
     if m:
         return WORDS[m[1]] + "-" + m[2].replace("-", "_")
     return name.replace("-", "_")
@@ -78,7 +78,7 @@ def declared():
             for m in PAIR.finditer(text):
                 mine.update(w.strip() for w in m[1].split(","))
     # what port.py left half way: a word of an older library in a lemma's name, and a type in snake case
-    half = re.compile(r"(?:getD|length)_\w+|[A-Z][a-z]\w*_\w+")
+    half = re.compile(r"(?:getD|get_d|length)_\w+|[A-Z][a-z]\w*_\w+")
     return {n for n in mine - others if re.fullmatch(NAME, n) or half.fullmatch(n)}
 
 

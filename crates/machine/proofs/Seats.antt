@@ -32,10 +32,10 @@ was_made : (q : Option Refusal) (b : Bool) → if_made q b false ≡ true → (q
 was_made None b e = (refl, e)
 was_made (Some r) b e = clash (cc)
 
-get_d_any : {A : Type 0} (xs : List A) (i : ℕ) (d e : A) → i < length xs → get_or xs i d ≡ get_or xs i e
-get_d_any [] i d e l = absurd (omega arith)
-get_d_any (x ∷ xs) zero d e l = refl
-get_d_any (x ∷ xs) (suc i) d e l = get_d_any xs i d e (omega arith)
+get_or-any : {A : Type 0} (xs : List A) (i : ℕ) (d e : A) → i < length xs → get_or xs i d ≡ get_or xs i e
+get_or-any [] i d e l = absurd (omega arith)
+get_or-any (x ∷ xs) zero d e l = refl
+get_or-any (x ∷ xs) (suc i) d e l = get_or-any xs i d e (omega arith)
 
 operation_content : (xs : List ℕ) (plan : Plan) → (operation_of xs plan).content ≡ content_of xs plan
 operation_content xs (Read i) = refl
@@ -159,7 +159,7 @@ module _ {Setup Phase : Type 0} (p : Protocol Setup Phase) {Meets : Phase → �
       -- the row that is lent is the station's
       lent_is : (i : ℕ) (d : Status Phase) → i ≡ s → get_or x.table i d ≡ Running v k ph
       lent_is i d same =
-          get_d_any x.table i d Absent (omega (arith, good.fitting.rows, good.fitting.few, below)) ∙ ap (λ (j : ℕ). get_or x.table j Absent) same ∙ is
+          get_or-any x.table i d Absent (omega (arith, good.fitting.rows, good.fitting.few, below)) ∙ ap (λ (j : ℕ). get_or x.table j Absent) same ∙ is
 
       pub steps_on : (plan : Plan) (op : Operation) (ys : List ℕ) (i : ℕ) (d : Status Phase) (outcome : Option Outcome) (row : Status Phase) → plan ≡ p.plan x.setup s v ph →
           op ≡ operation_of x.contents plan → ys ≡ contents_after x.contents plan →

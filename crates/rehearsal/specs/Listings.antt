@@ -39,14 +39,14 @@ call_of (command script.enter ops) = Some (Enter (slice_index ops 0) (slice_inde
 call_of (command script.step ops) = Some (Step (slice_index ops 0) (slice_index ops 1))
 call_of (command script.stop ops) = Some (Stop (slice_index ops 0))
 
--- an N for the pile p with n stations is refused by the first of its questions that is answered no
+-- why an N for the pile of number p, with n stations and this leader, is refused: the first of its questions answered no
 abbrev pub RefusesNew : ℕ → ℕ → ℕ → Refusal → Type 0
 RefusesNew p n leader UnknownPile = (r : Pile) → number_of_pile r ≢ p
 RefusesNew p n leader StationCount = (r : Pile) × (number_of_pile r ≡ p) × (1 ≤ n → n ≤ 16 → ⊥)
 RefusesNew p n leader LeaderOutOfRange = (r : Pile) × (number_of_pile r ≡ p) × (1 ≤ n) × (n ≤ 16) × (n ≤ leader)
 RefusesNew p n leader _ = ⊥
 
--- a command that makes no call is refused: one that cannot be read by what it lacks, an N by a question of its own
+-- why a command that makes no call is refused: what cannot be read by what it lacks, an N by its first question answered no
 abbrev pub TurnsDown : Item → Refusal → Type 0
 TurnsDown (broken q) r = r ≡ q
 TurnsDown (command script.new ops) r = RefusesNew (slice_index ops 0) (slice_index ops 1) (slice_index ops 2) r
