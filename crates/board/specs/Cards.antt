@@ -1,8 +1,9 @@
 -- The contents that bytes hold, two to each, high byte first.
-use Rattle.std.specs.Prelude.{◌≡◌, ℕ, ◌+◌, ◌*◌, ◌/◌, ◌%◌, min, List, map, length, drop, Ok, Err, Result, slice_index, slice_set, refl}
+use Rattle.std.specs.Prelude.{◌≡◌, ℕ, ◌<◌, ◌≤◌, ◌+◌, ◌*◌, ◌/◌, ◌%◌, min, List, map, length, drop, Ok, Err, Result, slice_index, slice_set, refl}
 use Rattle.std.proofs.Common.{subst, ◌∙◌}
 use Rattle.std.specs.List.{range_with_len}
 use Rattle.refusal.specs.declared.Refusal.{Refusal}
+use Rattle.refusal.specs.declared.Refusal.TheVariants.{NoSuchRegister}
 
 -- how many registers so many bytes make
 abbrev pub registers : ℕ → ℕ
@@ -14,6 +15,11 @@ content_at bs i = 256 * slice_index bs (2 * i) + slice_index bs (2 * i + 1)
 
 unfoldable pub contents_of : List ℕ → List ℕ
 contents_of bs = map (content_at bs) (range_with_len 0 (registers (length bs)))
+
+-- where the first of the two bytes of register i stands, if there is a register i
+abbrev pub Placed : List ℕ → ℕ → Result ℕ Refusal → Type 0
+Placed bs i (Ok at) = (i < registers (length bs)) × (at ≡ 2 * i)
+Placed bs i (Err e) = (registers (length bs) ≤ i) × (e ≡ NoSuchRegister)
 
 -- the bytes after a write of w to register i
 abbrev pub bytes_after : List ℕ → ℕ → ℕ → Result (Unit {0}) Refusal → List ℕ

@@ -1,7 +1,7 @@
 ghost use Rattle.std.specs.Prelude.{◌≡◌, ℕ, refl};
 ghost use Rattle.std.proofs.Common.{◌∙◌};
 ghost use Rattle.board.specs.Board.{Writes};
-ghost use Rattle.board.specs.Cards.{Beyond, beyond_on, beyond_same, bytes_after, contents_of};
+ghost use Rattle.board.specs.Cards.{Beyond, beyond_on, beyond_same, bytes_after, contents_of, Placed};
 
 use super::Board;
 use refusal::Refusal;
@@ -20,6 +20,17 @@ impl<'a> CardBoard<'a> {
     {
         CardBoard { bytes }
     }
+
+    // Where the first of a register's two bytes stands.
+    fn place(&self, register: u16) -> Result<usize, Refusal>
+        ensures { Placed self.now.bytes.now register result }
+    {
+        if register < self.count() {
+            Ok(2 * usize::from(register))
+        } else {
+            Err(Refusal::NoSuchRegister)
+        }
+    }
 }
 
 impl<'a> Board for CardBoard<'a> {
@@ -31,18 +42,12 @@ impl<'a> Board for CardBoard<'a> {
     ghost steady = { record { same = λ x. (refl, beyond_same x.bytes.now); on = λ x y z p q. (q.0 ∙ p.0, beyond_on x.bytes.now y.bytes.now z.bytes.now p.1 q.1) } };
 
     fn count(&self) -> u16 {
-        let pairs = self.bytes.len() / 2;
-        if pairs < 64 { pairs as u16 } else { 64 }
+        (self.bytes.len() / 2).min(64) as u16
     }
 
     fn look(&self, register: u16) -> Result<u16, Refusal> {
-        let at = 2 * usize::from(register);
-        if register >= 64 || at + 1 >= self.bytes.len() {
-            return Err(Refusal::NoSuchRegister);
-        }
-        let high = u16::from(self.bytes[at]);
-        let low = u16::from(self.bytes[at + 1]);
-        Ok(256 * high + low)
+        let at = self.place(register)?;
+        Ok(u16::from_be_bytes([self.bytes[at], self.bytes[at + 1]]))
     }
 
     fn read(&mut self, register: u16) -> Result<u16, Refusal> {
@@ -54,12 +59,10 @@ impl<'a> Board for CardBoard<'a> {
         ensures beyond { (self.new.bytes.ghost_name ≡ self.old.bytes.ghost_name) × Beyond self.old.bytes.now self.new.bytes.now }
         ensures bytes { self.new.bytes.now ≡ bytes_after self.old.bytes.now register content result }
     {
-        let at = 2 * usize::from(register);
-        if register >= 64 || at + 1 >= self.bytes.len() {
-            return Err(Refusal::NoSuchRegister);
-        }
-        self.bytes[at] = (content / 256) as u8;
-        self.bytes[at + 1] = (content % 256) as u8;
+        let at = self.place(register)?;
+        let [high, low] = content.to_be_bytes();
+        self.bytes[at] = high;
+        self.bytes[at + 1] = low;
         Ok(())
     }
 }

@@ -30,10 +30,10 @@ impl Board for CellBoard {
     }
 
     fn look(&self, register: u16) -> Result<u16, Refusal> {
-        if register >= 64 {
-            return Err(Refusal::NoSuchRegister);
-        }
-        Ok(self.cells[usize::from(register)])
+        self.cells
+            .get(usize::from(register))
+            .copied()
+            .ok_or(Refusal::NoSuchRegister)
     }
 
     fn read(&mut self, register: u16) -> Result<u16, Refusal> {
@@ -41,9 +41,8 @@ impl Board for CellBoard {
     }
 
     fn write(&mut self, register: u16, content: u16) -> Result<(), Refusal> {
-        if register >= 64 {
-            return Err(Refusal::NoSuchRegister);
-        }
+        // `get_mut` would test and lend at once, but what is written through it to an array is lost to the proof.
+        self.look(register)?;
         self.cells[usize::from(register)] = content;
         Ok(())
     }

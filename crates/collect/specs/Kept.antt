@@ -7,7 +7,7 @@ use Rattle.deciding.specs.declared.record.Outcome.{Outcome}
 use Rattle.deciding.specs.declared.record.Outcome.TheVariants.{Adopt, Commit}
 use Rattle.deciding.specs.declared.record.Record.TheVariants.{UnderWay, Answered}
 use Rattle.machine.specs.declared.status.Status.TheVariants.{Absent, Running, Done}
-use Rattle.machine.specs.declared.status.Turn.{Turn}
+use Rattle.machine.specs.Turn.{Turn}
 use Rattle.collect.specs.declared.Collect.{Collect}
 use Rattle.collect.specs.declared.CollectPhase.{CollectPhase}
 use Rattle.collect.specs.declared.CollectPhase.TheVariants.{WriteMark, ReadMarks, WriteVote, ReadVotes}

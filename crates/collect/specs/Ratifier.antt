@@ -5,8 +5,7 @@ use Rattle.deciding.specs.declared.record.Outcome.{Outcome}
 use Rattle.deciding.specs.declared.record.Outcome.TheVariants.{Adopt, Commit}
 use Rattle.machine.specs.declared.status.Plan.{Plan}
 use Rattle.machine.specs.declared.status.Plan.TheVariants.{Read, Write}
-use Rattle.machine.specs.declared.status.Turn.{Turn}
-use Rattle.machine.specs.declared.status.Turn.TheVariants.{On, End}
+use Rattle.machine.specs.Turn.{Turn, On, End}
 use Rattle.collect.specs.declared.Collect.{Collect}
 use Rattle.collect.specs.declared.CollectPhase.{CollectPhase}
 use Rattle.collect.specs.declared.CollectPhase.TheVariants.{WriteMark, ReadMarks, WriteVote, ReadVotes}

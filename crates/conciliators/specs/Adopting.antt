@@ -10,8 +10,7 @@ use Rattle.machine.specs.declared.status.Status.{Status}
 use Rattle.machine.specs.declared.status.Status.TheVariants.{Absent, Running, Done}
 use Rattle.machine.specs.declared.status.Plan.{Plan}
 use Rattle.machine.specs.declared.status.Plan.TheVariants.{Read, Write}
-use Rattle.machine.specs.declared.status.Turn.{Turn}
-use Rattle.machine.specs.declared.status.Turn.TheVariants.{On, End}
+use Rattle.machine.specs.Turn.{Turn, On, End}
 use Rattle.deciding.specs.Laws.{Laws, Proposes, Ends, mark, marks}
 use Rattle.machine.specs.Protocol.{Protocol, shown, register_of, content_of, contents_after, status_after}
 use Rattle.machine.specs.Kept.{rows, Within, Kept}

@@ -3,8 +3,7 @@ use Rattle.std.specs.Prelude.{ℕ, ◌+◌, ◌-◌, ◌%◌, ◌^◌, false, co
 use Rattle.deciding.specs.declared.record.Outcome.TheVariants.{Adopt}
 use Rattle.machine.specs.declared.status.Plan.{Plan}
 use Rattle.machine.specs.declared.status.Plan.TheVariants.{Read as Reading, Write as Writing}
-use Rattle.machine.specs.declared.status.Turn.{Turn}
-use Rattle.machine.specs.declared.status.Turn.TheVariants.{On, End}
+use Rattle.machine.specs.Turn.{Turn, On, End}
 use Rattle.conciliators.specs.declared.coin.Coin.{Coin}
 use Rattle.conciliators.specs.declared.coin.CoinPhase.{CoinPhase}
 use Rattle.conciliators.specs.declared.coin.CoinPhase.TheVariants.{Try, Write, Confirm}

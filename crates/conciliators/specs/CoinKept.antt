@@ -3,7 +3,7 @@ use Rattle.std.specs.Prelude.{◌≡◌, ℕ, ◌+◌, ◌-◌, ◌%◌, ◌^◌
 use Rattle.std.proofs.Common.{inr, mod-lt, arith}
 use Rattle.std.proofs.lemmas.Bool.{cond_both, eqb-false, ltb-false}
 use Rattle.deciding.specs.declared.record.Outcome.TheVariants.{Adopt}
-use Rattle.machine.specs.declared.status.Turn.TheVariants.{On, End}
+use Rattle.machine.specs.Turn.{On, End}
 use Rattle.conciliators.specs.declared.coin.Coin.{Coin}
 use Rattle.conciliators.specs.declared.coin.CoinPhase.{CoinPhase}
 use Rattle.conciliators.specs.declared.coin.CoinPhase.TheVariants.{Try, Write, Confirm}

@@ -4,8 +4,7 @@ use Rattle.refusal.specs.declared.Refusal.TheVariants.{LeaderOutOfRange}
 use Rattle.deciding.specs.declared.record.Outcome.TheVariants.{Adopt}
 use Rattle.machine.specs.declared.status.Plan.{Plan}
 use Rattle.machine.specs.declared.status.Plan.TheVariants.{Read, Write}
-use Rattle.machine.specs.declared.status.Turn.{Turn}
-use Rattle.machine.specs.declared.status.Turn.TheVariants.{End}
+use Rattle.machine.specs.Turn.{Turn, End}
 use Rattle.conciliators.specs.declared.leader.Leader.{Leader}
 use Rattle.conciliators.specs.declared.leader.LeaderPhase.{LeaderPhase}
 use Rattle.conciliators.specs.declared.leader.LeaderPhase.TheVariants.{OnlyStep}

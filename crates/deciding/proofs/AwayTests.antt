@@ -1,30 +1,20 @@
 -- Asking one record after another whether it is away.
-use Rattle.std.proofs.Common.{◌≡◌, ℕ, zero, suc, ◌+◌, ◌<◌, Bool, true, false, ◌&&◌, ◌⊎◌, refl, inl, inr, add-one, arith}
-use Rattle.std.proofs.lemmas.Bool.{cases_eq}
+use Rattle.std.proofs.Common.{◌≡◌, ℕ, zero, suc, ◌<◌, Bool, true, false, ◌&&◌, Decides, refl}
+use Rattle.std.proofs.lemmas.Bool.Decides.{Decides-below_and}
 use Rattle.deciding.specs.declared.record.Record.{Record}
 use Rattle.deciding.specs.declared.record.Record.TheVariants.{Away}
 use Rattle.deciding.specs.Away.{is_away, all_away}
 
-pub away_none : (f : ℕ → Record) → all_away f 0 ≡ true
-unfolding all_away
-away_none f = refl
+either_order : (a b : Bool) → (a && b) ≡ (b && a)
+either_order true true = refl
+either_order true false = refl
+either_order false true = refl
+either_order false false = refl
 
-pub away_more : (f : ℕ → Record) (k : ℕ) → all_away f k ≡ true → is_away (f k) ≡ true → all_away f (k + 1) ≡ true
+-- all the records below k are away just where the record of each is
+pub away_decides : (f : ℕ → Record) (k : ℕ) → Decides (all_away f k) ((s : ℕ) → s < k → is_away (f s) ≡ true)
 unfolding all_away
-away_more f k h e = rw add-one (rw (h, e) refl)
-
-false_right : (b : Bool) → (b && false) ≡ false
-false_right true = refl
-false_right false = refl
-
-pub away_not : (f : ℕ → Record) (k i : ℕ) → i < k → is_away (f i) ≡ false → all_away f k ≡ false
-unfolding all_away
-away_not f zero i h e = absurd (omega arith)
-away_not f (suc k) i h e = go (cases_eq i k) (λ l. away_not f k i l e)
-  where
-    go : (i ≡ k) ⊎ (i ≡ k → ⊥) → (i < k → all_away f k ≡ false) → (all_away f k && is_away (f k)) ≡ false
-    go (inl p) below = let q : is_away (f k) ≡ false = cc in rw q (false_right (all_away f k))
-    go (inr p) below = rw (below (omega arith)) refl
+away_decides f k = Decides-below_and (λ s. is_away (f s)) (λ s. is_away (f s) ≡ true) (all_away f) (λ s. (λ e. e, λ e. e)) refl (λ n. either_order (all_away f n) (is_away (f n))) k
 
 -- where every record is away, they all are
 pub away_all : (f : ℕ → Record) → ((s : ℕ) → f s ≡ Away) → (k : ℕ) → all_away f k ≡ true

@@ -1,4 +1,5 @@
 pub mod Away
+pub mod Below
 pub mod Calls
 pub mod Deciding
 pub mod Laws

@@ -1,6 +1,6 @@
 -- A making that may be refused. Every object whose making asks questions is a machine with the refusal beside it: it shows
 -- the machine where the making passed, and nothing at all where it was refused. One text and one proof for all of them.
-use Rattle.std.specs.Prelude.{◌≡◌, ℕ, ◌<◌, ◌≤◌, Bool, true, false, Some, None, Option, nat_le, nat_lt, refl}
+use Rattle.std.specs.Prelude.{◌≡◌, ℕ, ◌<◌, ◌≤◌, Bool, true, false, Some, None, Ok, Err, Option, Result, nat_le, nat_lt, refl}
 use Rattle.std.proofs.Common.{arith}
 use Rattle.std.proofs.lemmas.Bool.{and_parts, leb-true}
 use Rattle.refusal.specs.declared.Refusal.{Refusal}
@@ -38,6 +38,17 @@ refusable m = record {
       let r = m.step x.inner s c in
       record { operation = r.operation; outcome = r.outcome; next = record { inner = r.next; refused = x.refused } };
 }
+
+-- what comes of asking whether something is refused
+abbrev pub granted : Option Refusal → Result (Unit {0}) Refusal
+granted None = Ok tt
+granted (Some r) = Err r
+
+pub granted_same : (p q : Option Refusal) → granted p ≡ granted q → p ≡ q
+granted_same None None e = refl
+granted_same None (Some r) e = cc
+granted_same (Some r) None e = cc
+granted_same (Some r) (Some s) e = cc
 
 -- What holds where the making passed: the machine inside is reached, and of a size that an object may have.
 pub record Made (m : Machine) (d : Deciding m) (x : m.State) : Type 0 where

@@ -8,17 +8,12 @@ use super::object::DecidingObject;
 pub fn one_to_sixteen(stations: u8) -> bool
     ensures { result ≡ one_to_sixteen stations }
 {
-    1 <= stations && stations <= 16
+    (1..=16).contains(&stations)
 }
 
 // Are the records of all sixteen stations away?
 pub fn all_away<D: DecidingObject>(object: &D) -> bool
     ensures { D.DecidingObject.deciding.Reached (D.DecidingObject.state object.now) → result ≡ all_away (D.DecidingObject.machine.record_of (D.DecidingObject.state object.now)) 16 }
 {
-    for station in 0..16 {
-        if !object.record(station).is_away() {
-            return false;
-        }
-    }
-    true
+    (0..16).all(|station| object.record(station).is_away())
 }

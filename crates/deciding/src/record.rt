@@ -1,5 +1,6 @@
 ghost use Rattle.std.specs.Prelude.{◌≡◌};
 ghost use Rattle.deciding.specs.Away.{is_away};
+ghost use Rattle.deciding.specs.Laws.{mark};
 
 // A mark is a whole number of millimetres from 0 to 255: where a bag's good ice begins.
 // What a station comes out with: a mark that it takes over, or one that is settled for all.
@@ -25,6 +26,16 @@ pub enum Record {
     },
 }
 
+impl Outcome {
+    pub fn mark(self) -> u8
+        ensures { result ≡ mark self }
+    {
+        match self {
+            Outcome::Adopt(mark) | Outcome::Commit(mark) => mark,
+        }
+    }
+}
+
 #[derive(Clone, Copy, PartialEq, Eq, Debug)]
 pub enum Access {
     Read,
@@ -43,10 +54,6 @@ impl Record {
     pub fn is_away(self) -> bool
         ensures { result ≡ is_away self }
     {
-        match self {
-            Record::Away => true,
-            Record::UnderWay { .. } => false,
-            Record::Answered { .. } => false,
-        }
+        matches!(self, Record::Away)
     }
 }

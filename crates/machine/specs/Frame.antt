@@ -12,11 +12,10 @@ use Rattle.deciding.specs.Laws.{stepped}
 use Rattle.deciding.specs.Machine.{Step, Beside, Enters, Steps}
 use Rattle.deciding.specs.Sizes.{Sizes, one_to_sixteen}
 use Rattle.deciding.specs.Deciding.{Deciding}
-use Rattle.deciding.specs.Refusable.{with_refusal, refusable, refusable_deciding}
+use Rattle.deciding.specs.Refusable.{refusable, refusable_deciding}
 use Rattle.machine.specs.declared.status.Status.{Status}
 use Rattle.machine.specs.declared.status.Status.TheVariants.{Absent, Running, Done}
-use Rattle.machine.specs.declared.status.Turn.{Turn}
-use Rattle.machine.specs.declared.status.Turn.TheVariants.{On, End}
+use Rattle.machine.specs.Turn.{Turn, On, End}
 use Rattle.machine.specs.declared.status.Plan.{Plan}
 use Rattle.machine.specs.declared.status.Plan.TheVariants.{Read, Write}
 use Rattle.machine.specs.Protocol.{Protocol, Running', running, shown, register_of, contents_after, operation_of, status_after, outcome_of, step_from, machine_of}
@@ -121,7 +120,7 @@ module _ {Setup Phase : Type 0} (p : Protocol Setup Phase) {Meets : Phase → �
     step_below = by_phase (λ r. r.operation.register < p.registers x.setup) (λ ph is.
         omega (arith, operation_register x.contents (p.plan x.setup s v ph), kept.below _ _ _ s v k ph good.inv e.below is))
 
-  running_deciding : Deciding (machine_of p)
+  pub running_deciding : Deciding (machine_of p)
   running_deciding = record {
     Reached = Good p kept;
     enter_reached = enter_good;
@@ -139,14 +138,14 @@ module _ {Setup Phase : Type 0} (p : Protocol Setup Phase) {Meets : Phase → �
     laws = λ x good. kept.gives _ _ _ good.fitting good.past good.inv;
   }
 
+  -- what is reached is good
+  pub running_good : (x : Running' Setup Phase) → running_deciding.Reached x → Good p kept x
+  unfolding running_deciding
+  running_good x reached = reached
+
   -- THE OBJECT: the machine, and whether its making was refused
   pub kept_deciding : Deciding (refusable (machine_of p))
   kept_deciding = refusable_deciding (machine_of p) running_deciding
-
-  -- what is reached, and was not refused
-  pub reached_good : (x : Running' Setup Phase) (q : Option Refusal) → kept_deciding.Reached (with_refusal x q) → q ≡ None → Good p kept x
-  unfolding kept_deciding running_deciding
-  reached_good x q reached none = (reached none).reached
 
 -- THE MAKING
 all_asked : (a b c : Bool) (q : Option Refusal) →

@@ -4,3 +4,4 @@ pub mod Making
 pub mod Protocol
 pub mod Rows
 pub mod Stations
+pub mod Turn

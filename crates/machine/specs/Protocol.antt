@@ -11,8 +11,7 @@ use Rattle.machine.specs.declared.status.Status.{Status}
 use Rattle.machine.specs.declared.status.Status.TheVariants.{Absent, Running, Done}
 use Rattle.machine.specs.declared.status.Plan.{Plan}
 use Rattle.machine.specs.declared.status.Plan.TheVariants.{Read, Write}
-use Rattle.machine.specs.declared.status.Turn.{Turn}
-use Rattle.machine.specs.declared.status.Turn.TheVariants.{On, End}
+use Rattle.machine.specs.Turn.{Turn, On, End}
 
 -- The algorithm and nothing else, by the setup that all stations share.
 pub record Protocol (Setup Phase : Type 0) : Type 0 where

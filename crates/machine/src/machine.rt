@@ -1,17 +1,18 @@
 ghost use Rattle.std.specs.Prelude.{◌≡◌, ℕ, ◌<◌, Bool, false, ◌&&◌, List, length, ◌==◌, nat_lt, slice_index, slice_index_or};
-ghost use Rattle.deciding.specs.Refusable.{if_made, refusable, with_refusal};
+ghost use Rattle.deciding.specs.Refusable.{granted, with_refusal};
 ghost use Rattle.machine.specs.declared.status.Status.TheVariants.{Absent};
 ghost use Rattle.machine.specs.Protocol.{machine_of, running};
 ghost use Rattle.machine.specs.Making.{empty_below, refusal_of, made};
-ghost use Rattle.machine.specs.Frame.{kept_deciding};
+ghost use Rattle.machine.specs.Frame.{kept_deciding, running_deciding};
 ghost use Rattle.machine.specs.Rows.{Carried, Advances};
 
-use super::protocol::Protocol;
+use super::protocol::{Proposer, Protocol};
 use super::status::{Plan, Status};
 use board::Board;
 use deciding::object::DecidingObject;
 use deciding::questions::one_to_sixteen;
 use deciding::record::{Access, Operation, Outcome, Record};
+use deciding::refusable::Refusable;
 use refusal::Refusal;
 
 // Up to sixteen stations that run one protocol on one board.
@@ -19,7 +20,6 @@ use refusal::Refusal;
 pub struct StepMachine<P: Protocol, B> {
     protocol: P,
     board: B,
-    refused: Option<Refusal>,
     table: [Status<P::Phase>; 16],
     ghost whole: { length table ≡ 16 },
 }
@@ -28,43 +28,32 @@ pub struct StepMachine<P: Protocol, B> {
 fn is_empty<B: Board>(board: &B, register: u16) -> bool
     ensures { result ≡ (slice_index (B.Board.contents board.now) register == 0) }
 {
-    match board.look(register) {
-        Ok(content) => content == 0,
-        Err(_) => true,
-    }
+    board.look(register).unwrap_or(0) == 0
 }
 
 // Are the first so many registers empty?
 fn all_empty<B: Board>(board: &B, registers: u16) -> bool
     ensures { result ≡ empty_below (B.Board.contents board.now) registers }
 {
-    for register in 0..registers {
-        if !is_empty(board, register) {
-            return false;
-        }
-    }
-    true
+    (0..registers).all(|register| is_empty(board, register))
 }
 
-// The first question of a making that is answered no.
-fn first_refusal<P: Protocol, B: Board>(protocol: &P, board: &B) -> Option<Refusal>
-    ensures { result ≡ refusal_of P.Protocol.rules protocol.now (B.Board.contents board.now) }
+// Asks the questions of a making.
+fn ask<P: Protocol, B: Board>(protocol: &P, board: &B) -> Result<(), Refusal>
+    ensures { result ≡ granted (refusal_of P.Protocol.rules protocol.now (B.Board.contents board.now)) }
 {
     if !one_to_sixteen(protocol.stations()) {
-        return Some(Refusal::StationCount);
+        return Err(Refusal::StationCount);
     }
-    if let Some(refusal) = protocol.question() {
-        return Some(refusal);
-    }
+    protocol.question()?;
     let registers = protocol.registers();
     if registers > board.count() {
-        return Some(Refusal::TooFewRegisters);
+        return Err(Refusal::TooFewRegisters);
     }
-    if all_empty(board, registers) {
-        None
-    } else {
-        Some(Refusal::RegistersInUse)
+    if !all_empty(board, registers) {
+        return Err(Refusal::RegistersInUse);
     }
+    Ok(())
 }
 
 // The one register operation of a step.
@@ -72,22 +61,22 @@ fn carry_out<B: Board>(board: &mut B, plan: Plan) -> Result<Operation, Refusal>
     ensures { Carried (B.Board.contents board.old) plan result (B.Board.contents board.new) }
 {
     match plan {
-        Plan::Read(register) => match board.read(register) {
-            Ok(content) => Ok(Operation {
+        Plan::Read(register) => {
+            let content = board.read(register)?;
+            Ok(Operation {
                 access: Access::Read,
                 register,
                 content,
-            }),
-            Err(refusal) => Err(refusal),
-        },
-        Plan::Write(register, content) => match board.write(register, content) {
-            Ok(()) => Ok(Operation {
+            })
+        }
+        Plan::Write(register, content) => {
+            board.write(register, content)?;
+            Ok(Operation {
                 access: Access::Write,
                 register,
                 content,
-            }),
-            Err(refusal) => Err(refusal),
-        },
+            })
+        }
     }
 }
 
@@ -110,7 +99,11 @@ fn advance<P: Protocol>(
         return None;
     };
     *steps = steps.saturating_add(1);
-    let outcome = protocol.advance(station, *proposal, phase, content, coin);
+    let proposer = Proposer {
+        station,
+        proposal: *proposal,
+    };
+    let outcome = protocol.advance(proposer, phase, content, coin);
     if let Some(outcome) = outcome {
         *row = Status::Done {
             proposal: *proposal,
@@ -122,101 +115,66 @@ fn advance<P: Protocol>(
 }
 
 impl<P: Protocol, B: Board> StepMachine<P, B> {
-    // A machine on the board as it is. Where a question is answered no, the machine is refused: it has no stations.
-    pub fn new(protocol: P, board: B) -> StepMachine<P, B>
-        ensures made { with_refusal (running result.protocol (B.Board.contents result.board) result.table) result.refused ≡ made P.Protocol.rules protocol (B.Board.contents board) }
-        ensures reached { (kept_deciding P.Protocol.rules P.Protocol.kept).Reached (with_refusal (running result.protocol (B.Board.contents result.board) result.table) result.refused) }
+    // A machine on the board as it is, if the questions of its making pass.
+    pub fn new(protocol: P, board: B) -> Refusable<StepMachine<P, B>>
+        ensures made { with_refusal (running result.inner.protocol (B.Board.contents result.inner.board) result.inner.table) result.refused ≡ made P.Protocol.rules protocol (B.Board.contents board) }
+        ensures reached { (kept_deciding P.Protocol.rules P.Protocol.kept).Reached (with_refusal (running result.inner.protocol (B.Board.contents result.inner.board) result.inner.table) result.refused) }
     {
-        let refused = first_refusal(&protocol, &board);
-        StepMachine {
+        let asked = ask(&protocol, &board);
+        let machine = StepMachine {
             protocol,
             board,
-            refused,
             table: [Status::Absent; 16],
-        }
+        };
+        Refusable::new(machine, asked)
     }
 
-    // Is it a station, of a machine whose making passed?
+    // Is it a station?
     fn has(&self, station: u8) -> bool
-        ensures { result ≡ if_made self.now.refused (nat_lt station (P.Protocol.rules.stations self.now.protocol) && nat_lt station 16) false }
+        ensures { result ≡ (nat_lt station (P.Protocol.rules.stations self.now.protocol) && nat_lt station 16) }
     {
-        match self.refused {
-            None => station < self.protocol.stations() && station < 16,
-            Some(_) => false,
-        }
+        station < self.protocol.stations() && station < 16
     }
 
     fn status(&self, station: u8) -> Status<P::Phase>
         ensures { result ≡ slice_index_or self.now.table station Absent }
     {
-        if station < 16 {
-            self.table[usize::from(station)]
-        } else {
-            Status::Absent
-        }
+        self.table
+            .get(usize::from(station))
+            .copied()
+            .unwrap_or(Status::Absent)
     }
 }
 
 impl<P: Protocol, B: Board> DecidingObject for StepMachine<P, B> {
-    ghost machine = { refusable (machine_of P.Protocol.rules) };
+    ghost machine = { machine_of P.Protocol.rules };
 
-    ghost deciding = { kept_deciding P.Protocol.rules P.Protocol.kept };
+    ghost deciding = { running_deciding P.Protocol.rules P.Protocol.kept };
 
-    ghost state = { λ x. with_refusal (running x.protocol (B.Board.contents x.board) x.table) x.refused };
+    ghost state = { λ x. running x.protocol (B.Board.contents x.board) x.table };
 
     fn stations(&self) -> u8 {
-        match self.refused {
-            None => self.protocol.stations(),
-            Some(_) => 0,
-        }
+        self.protocol.stations()
     }
 
     fn limit(&self) -> u16 {
-        match self.refused {
-            None => self.protocol.limit(),
-            Some(_) => 0,
-        }
+        self.protocol.limit()
     }
 
     fn registers(&self) -> u16 {
-        match self.refused {
-            None => self.protocol.registers(),
-            Some(_) => 0,
-        }
+        self.protocol.registers()
     }
 
     fn ratifying(&self) -> bool {
-        match self.refused {
-            None => self.protocol.ratifying(),
-            Some(_) => false,
-        }
+        self.protocol.ratifying()
     }
 
     fn refused(&self) -> Option<Refusal> {
-        self.refused
+        None // a machine that was refused is in a `Refusable`
     }
 
     fn record(&self, station: u8) -> Record {
-        if self.refused.is_some() {
-            return Record::Away;
-        }
-        match self.status(station) {
-            Status::Absent => Record::Away,
-            Status::Running {
-                proposal,
-                steps,
-                ..
-            } => Record::UnderWay { proposal, steps },
-            Status::Done {
-                proposal,
-                steps,
-                outcome,
-            } => Record::Answered {
-                proposal,
-                steps,
-                outcome,
-            },
-        }
+        self.status(station).into()
     }
 
     fn enter(&mut self, station: u8, mark: u8) -> Result<(), Refusal> {
@@ -248,7 +206,7 @@ impl<P: Protocol, B: Board> DecidingObject for StepMachine<P, B> {
                 phase,
                 ..
             } => {
-                let plan = self.protocol.plan(station, proposal, &phase);
+                let plan = self.protocol.plan(Proposer { station, proposal }, &phase);
                 let operation = carry_out(&mut self.board, plan)?;
                 let outcome = advance(
                     &mut self.table[usize::from(station)],

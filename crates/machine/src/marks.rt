@@ -1,6 +1,13 @@
-ghost use Rattle.std.specs.Prelude.{◌≡◌, ℕ, ◌-◌, min};
+ghost use Rattle.std.specs.Prelude.{◌≡◌, ℕ, ◌+◌, ◌-◌, min};
 
-// The mark that a content keeps: mark v is kept as v + 1, so that 0 means empty.
+// The content that keeps a mark, never 0, since that means empty.
+pub fn content_for(mark: u8) -> u16
+    ensures { result ≡ mark + 1 }
+{
+    u16::from(mark) + 1
+}
+
+// The mark that a content keeps.
 pub fn mark_of(content: u16) -> u8
     ensures { result ≡ min (content - 1) 255 }
 {

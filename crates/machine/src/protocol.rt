@@ -1,10 +1,18 @@
 ghost use Rattle.std.specs.Prelude.{◌≡◌, ℕ, ◌<◌};
+ghost use Rattle.deciding.specs.Refusable.{granted};
 ghost use Rattle.machine.specs.Protocol.{Protocol as Rules, outcome_of, phase_after};
 ghost use Rattle.machine.specs.Kept.{Kept};
 
 use super::status::Plan;
 use deciding::record::Outcome;
 use refusal::Refusal;
+
+// The station whose turn it is, with the mark that it proposed.
+#[derive(Clone, Copy)]
+pub struct Proposer {
+    pub station: u8,
+    pub proposal: u8,
+}
 
 // What every station of a machine does, step by step. A value of the type is the setup that all stations share;
 // a station's own place is its phase.
@@ -33,28 +41,27 @@ pub trait Protocol {
         ensures { result ≡ rules.ratifying };
 
     // The protocol's own question at a making, asked after that for the number of stations.
-    fn question(&self) -> Option<Refusal>
-        ensures { result ≡ rules.question self.now };
+    fn question(&self) -> Result<(), Refusal>
+        ensures { result ≡ granted (rules.question self.now) };
 
     // The phase of a station that has just entered.
     fn begin(&self) -> Self::Phase
         ensures { result ≡ rules.begun };
 
     // The operation that a phase asks for.
-    fn plan(&self, station: u8, proposal: u8, phase: &Self::Phase) -> Plan
-        ensures { result ≡ rules.plan self.now station proposal phase.now };
+    fn plan(&self, proposer: Proposer, phase: &Self::Phase) -> Plan
+        ensures { result ≡ rules.plan self.now proposer.station proposer.proposal phase.now };
 
     // Sets the next phase in place, by the content that was read or written, or brings an outcome.
     fn advance(
         &self,
-        station: u8,
-        proposal: u8,
+        proposer: Proposer,
         phase: &mut Self::Phase,
         content: u16,
         coin: u8,
     ) -> Option<Outcome>
-        ensures outcome { station < rules.stations self.now → meets phase.old content →
-            result ≡ outcome_of (rules.turn self.now station proposal phase.old content coin) }
-        ensures next { station < rules.stations self.now → meets phase.old content →
-            phase.new ≡ phase_after phase.old (rules.turn self.now station proposal phase.old content coin) };
+        ensures outcome { proposer.station < rules.stations self.now → meets phase.old content →
+            result ≡ outcome_of (rules.turn self.now proposer.station proposer.proposal phase.old content coin) }
+        ensures next { proposer.station < rules.stations self.now → meets phase.old content →
+            phase.new ≡ phase_after phase.old (rules.turn self.now proposer.station proposer.proposal phase.old content coin) };
 }

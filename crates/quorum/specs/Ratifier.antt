@@ -5,8 +5,7 @@ use Rattle.std.specs.Prelude.{ℕ, ◌+◌, ◌-◌, ◌≤◌, true, cond, None
 use Rattle.deciding.specs.declared.record.Outcome.TheVariants.{Adopt, Commit}
 use Rattle.machine.specs.declared.status.Plan.{Plan}
 use Rattle.machine.specs.declared.status.Plan.TheVariants.{Read, Write}
-use Rattle.machine.specs.declared.status.Turn.{Turn}
-use Rattle.machine.specs.declared.status.Turn.TheVariants.{On, End}
+use Rattle.machine.specs.Turn.{Turn, On, End}
 use Rattle.quorum.specs.declared.Quorum.{Quorum}
 use Rattle.quorum.specs.declared.QuorumPhase.{QuorumPhase}
 use Rattle.quorum.specs.declared.QuorumPhase.TheVariants.{WriteSet, ReadPreference, WritePreference, ReadSet}

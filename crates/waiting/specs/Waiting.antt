@@ -2,8 +2,7 @@
 use Rattle.std.specs.Prelude.{ℕ, ◌+◌, min, false, cond, None, nat_lt}
 use Rattle.deciding.specs.declared.record.Outcome.TheVariants.{Adopt}
 use Rattle.machine.specs.declared.status.Plan.TheVariants.{Read}
-use Rattle.machine.specs.declared.status.Turn.{Turn}
-use Rattle.machine.specs.declared.status.Turn.TheVariants.{On, End}
+use Rattle.machine.specs.Turn.{Turn, On, End}
 use Rattle.machine.specs.Protocol.{Protocol}
 use Rattle.waiting.specs.declared.Waiting.{Waiting}
 use Rattle.waiting.specs.declared.WaitingPhase.{WaitingPhase}

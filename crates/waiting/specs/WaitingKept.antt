@@ -2,7 +2,7 @@
 use Rattle.std.specs.Prelude.{◌≡◌, ℕ, ◌+◌, ◌<◌, nat_lt, slice_index, refl}
 use Rattle.std.proofs.Common.{arith, inl}
 use Rattle.std.proofs.lemmas.Bool.{cond_both, ltb-true}
-use Rattle.machine.specs.declared.status.Turn.{Turn}
+use Rattle.machine.specs.Turn.{Turn}
 use Rattle.machine.specs.Kept.{Kept}
 use Rattle.conciliators.specs.Adopting.{Adopting, EmptyOrMark, Leads, adopting_kept}
 use Rattle.waiting.specs.declared.Waiting.{Waiting}
