@@ -5,8 +5,8 @@ ghost use Rattle.collect.specs.Ratifier.{collect, collect_meets, fits as fitting
 ghost use Rattle.collect.specs.Kept.{collect_kept};
 
 use deciding::record::Outcome;
-use machine::marks::mark_of;
-use machine::protocol::Protocol;
+use machine::marks::{content_for, mark_of};
+use machine::protocol::{Proposer, Protocol};
 use machine::status::Plan;
 use refusal::Refusal;
 
@@ -69,13 +69,9 @@ fn vote(agree: bool, mark: u8) -> u16
 fn first_full(found: Option<u8>, content: u16) -> Option<u8>
     ensures { content ≤ 512 → result ≡ found_in found content }
 {
-    if let Some(mark) = found {
-        return Some(mark);
-    }
-    if content != 0 && content % 2 == 0 {
-        Some(mark_of(content / 2))
-    } else {
-        None
+    match found {
+        None if content != 0 && content % 2 == 0 => Some(mark_of(content / 2)),
+        _ => found,
     }
 }
 
@@ -83,11 +79,9 @@ fn verdict(mark: u8, clean: bool, found: Option<u8>) -> Outcome
     ensures { result ≡ judged mark clean found }
 {
     if clean {
-        return Outcome::Commit(mark);
-    }
-    match found {
-        Some(other) => Outcome::Adopt(other),
-        None => Outcome::Adopt(mark),
+        Outcome::Commit(mark)
+    } else {
+        Outcome::Adopt(found.unwrap_or(mark))
     }
 }
 
@@ -116,22 +110,23 @@ impl Protocol for Collect {
         true
     }
 
-    fn question(&self) -> Option<Refusal> {
-        None // it asks nothing of its own
+    fn question(&self) -> Result<(), Refusal> {
+        Ok(()) // it asks nothing of its own
     }
 
     fn begin(&self) -> CollectPhase {
         CollectPhase::WriteMark // its own mark stands before it reads another
     }
 
-    fn plan(&self, station: u8, proposal: u8, phase: &CollectPhase) -> Plan {
+    fn plan(&self, proposer: Proposer, phase: &CollectPhase) -> Plan {
         let votes = u16::from(self.stations);
+        let station = u16::from(proposer.station);
         match *phase {
-            CollectPhase::WriteMark => Plan::Write(u16::from(station), u16::from(proposal) + 1),
+            CollectPhase::WriteMark => Plan::Write(station, content_for(proposer.proposal)),
             CollectPhase::ReadMarks { next, .. } => Plan::Read(u16::from(next)),
             CollectPhase::WriteVote { agree } => Plan::Write(
-                votes + u16::from(station),
-                vote(agree, proposal),
+                votes + station,
+                vote(agree, proposer.proposal),
             ),
             CollectPhase::ReadVotes { next, .. } => Plan::Read(votes + u16::from(next)),
         }
@@ -139,8 +134,7 @@ impl Protocol for Collect {
 
     fn advance(
         &self,
-        _station: u8,
-        proposal: u8,
+        proposer: Proposer,
         phase: &mut CollectPhase,
         content: u16,
         _coin: u8,
@@ -148,7 +142,7 @@ impl Protocol for Collect {
         match *phase {
             CollectPhase::WriteMark => *phase = FIRST_MARK,
             CollectPhase::ReadMarks { next, agree } => {
-                let agree = agree && fits(u16::from(proposal) + 1, content);
+                let agree = agree && fits(content_for(proposer.proposal), content);
                 let next = next.saturating_add(1);
                 *phase = if next < self.stations {
                     CollectPhase::ReadMarks { next, agree }
@@ -158,11 +152,11 @@ impl Protocol for Collect {
             }
             CollectPhase::WriteVote { .. } => *phase = FIRST_VOTE,
             CollectPhase::ReadVotes { next, clean, found } => {
-                let clean = clean && fits(vote(true, proposal), content);
+                let clean = clean && fits(vote(true, proposer.proposal), content);
                 let found = first_full(found, content);
                 let next = next.saturating_add(1);
                 if next >= self.stations {
-                    return Some(verdict(proposal, clean, found));
+                    return Some(verdict(proposer.proposal, clean, found));
                 }
                 *phase = CollectPhase::ReadVotes { next, clean, found };
             }

@@ -5,8 +5,8 @@ ghost use Rattle.conciliators.specs.CoinKept.{coin_kept};
 ghost use Rattle.conciliators.specs.Doublings.{doublings_to, SmallestPower};
 
 use deciding::record::Outcome;
-use machine::marks::mark_of;
-use machine::protocol::Protocol;
+use machine::marks::{content_for, mark_of};
+use machine::protocol::{Proposer, Protocol};
 use machine::status::Plan;
 use refusal::Refusal;
 
@@ -31,11 +31,7 @@ fn doublings(n: u8) -> u8
     ensures value { result ≡ doublings_to n }
     ensures smallest { SmallestPower n result }
 {
-    let mut k = 0;
-    while (1u16 << k) < u16::from(n) {
-        k += 1;
-    }
-    k
+    (0..8).find(|&k| n <= 1 << k).unwrap_or(8)
 }
 
 impl Coin {
@@ -76,25 +72,24 @@ impl Protocol for Coin {
         false
     }
 
-    fn question(&self) -> Option<Refusal> {
-        None // it asks nothing of its own
+    fn question(&self) -> Result<(), Refusal> {
+        Ok(()) // it asks nothing of its own
     }
 
     fn begin(&self) -> CoinPhase {
         CoinPhase::Try { number: 0 }
     }
 
-    fn plan(&self, _station: u8, proposal: u8, phase: &CoinPhase) -> Plan {
+    fn plan(&self, proposer: Proposer, phase: &CoinPhase) -> Plan {
         match *phase {
             CoinPhase::Try { .. } | CoinPhase::Confirm => Plan::Read(0),
-            CoinPhase::Write => Plan::Write(0, u16::from(proposal) + 1),
+            CoinPhase::Write => Plan::Write(0, content_for(proposer.proposal)),
         }
     }
 
     fn advance(
         &self,
-        _station: u8,
-        _proposal: u8,
+        _proposer: Proposer,
         phase: &mut CoinPhase,
         content: u16,
         coin: u8,

@@ -3,8 +3,8 @@ ghost use Rattle.conciliators.specs.Leader.{leader_conciliator};
 ghost use Rattle.conciliators.specs.LeaderKept.{leader_kept};
 
 use deciding::record::Outcome;
-use machine::marks::mark_of;
-use machine::protocol::Protocol;
+use machine::marks::{content_for, mark_of};
+use machine::protocol::{Proposer, Protocol};
 use machine::status::Plan;
 use refusal::Refusal;
 
@@ -46,11 +46,11 @@ impl Protocol for Leader {
         false
     }
 
-    fn question(&self) -> Option<Refusal> {
+    fn question(&self) -> Result<(), Refusal> {
         if self.leader < self.stations {
-            None
+            Ok(())
         } else {
-            Some(Refusal::LeaderOutOfRange)
+            Err(Refusal::LeaderOutOfRange)
         }
     }
 
@@ -58,9 +58,9 @@ impl Protocol for Leader {
         LeaderPhase::OnlyStep
     }
 
-    fn plan(&self, station: u8, proposal: u8, _phase: &LeaderPhase) -> Plan {
-        if station == self.leader {
-            Plan::Write(0, u16::from(proposal) + 1)
+    fn plan(&self, proposer: Proposer, _phase: &LeaderPhase) -> Plan {
+        if proposer.station == self.leader {
+            Plan::Write(0, content_for(proposer.proposal))
         } else {
             Plan::Read(0)
         }
@@ -68,14 +68,13 @@ impl Protocol for Leader {
 
     fn advance(
         &self,
-        station: u8,
-        proposal: u8,
+        proposer: Proposer,
         _phase: &mut LeaderPhase,
         content: u16,
         _coin: u8,
     ) -> Option<Outcome> {
-        let adopted = if station == self.leader || content == 0 {
-            proposal
+        let adopted = if proposer.station == self.leader || content == 0 {
+            proposer.proposal
         } else {
             mark_of(content)
         };

@@ -15,11 +15,5 @@ pub fn examples() -> [u16; 5]
     ensures limits { result ≡ coin_limits }
     ensures examples { Examples }
 {
-    [
-        Coin { stations: 1 }.limit(),
-        Coin { stations: 2 }.limit(),
-        Coin { stations: 8 }.limit(),
-        Coin { stations: 9 }.limit(),
-        Coin { stations: 16 }.limit(),
-    ]
+    [1, 2, 8, 9, 16].map(|stations| Coin { stations }.limit())
 }

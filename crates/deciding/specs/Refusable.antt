@@ -6,15 +6,12 @@ use Rattle.std.proofs.lemmas.Bool.{and_parts, leb-true}
 use Rattle.refusal.specs.declared.Refusal.{Refusal}
 use Rattle.deciding.specs.declared.record.Record.{Record}
 use Rattle.deciding.specs.declared.record.Record.TheVariants.{Away, UnderWay, Answered}
+use Rattle.deciding.specs.declared.refusable.Refusable.{Refusable}
 use Rattle.deciding.specs.Laws.{Laws, away_laws, stepped}
 use Rattle.deciding.specs.Machine.{Machine, Step, Enters, Steps, Beside}
 use Rattle.deciding.specs.Sizes.{Sizes, Sized, one_to_sixteen}
 use Rattle.deciding.specs.Deciding.{Deciding}
 use Rattle.deciding.specs.Calls.{entry, entry_by, stepping, step_by}
-
-pub record Refusable (S : Type 0) : Type 0 where
-  pub inner : S
-  pub refused : Option Refusal
 
 -- the first where the making passed, else the second
 abbrev pub if_made : {A : Type 0} → Option Refusal → A → A → A

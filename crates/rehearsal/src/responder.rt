@@ -1,5 +1,6 @@
 ghost use Rattle.std.specs.Prelude.{◌≡◌};
-ghost use Rattle.deciding.specs.Refusable.{Refusable, RefusableReached};
+ghost use Rattle.deciding.specs.declared.refusable.Refusable.{Refusable};
+ghost use Rattle.deciding.specs.Refusable.{RefusableReached};
 ghost use Rattle.trial.specs.declared.call.Call.{Call as Asked};
 ghost use Rattle.trial.specs.Perform.{TrialState};
 ghost use Rattle.trial.specs.Trials.{tried, whole};

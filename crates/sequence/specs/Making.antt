@@ -10,7 +10,8 @@ use Rattle.deciding.specs.Machine.{Machine}
 use Rattle.deciding.specs.Sizes.{one_to_sixteen}
 use Rattle.deciding.specs.Deciding.{Deciding}
 use Rattle.deciding.specs.Questions.{all_are_away}
-use Rattle.deciding.specs.Refusable.{Refusable, RefusableReached, with_refusal, sizes_where_made}
+use Rattle.deciding.specs.declared.refusable.Refusable.{Refusable}
+use Rattle.deciding.specs.Refusable.{RefusableReached, with_refusal, sizes_where_made}
 use Rattle.sequence.specs.Joint.{Pair, pair, joint, Together}
 use Rattle.sequence.specs.JointDeciding.{joint_deciding}
 

@@ -1,34 +1,31 @@
 -- A sequence of the code, as the definitions have it, over the parts' own meaning.
-use Rattle.std.specs.Prelude.{◌≡◌, ℕ, ◌≤◌, true, None}
+use Rattle.std.specs.Prelude.{◌≡◌, ℕ, ◌≤◌, true}
 use Rattle.deciding.specs.declared.object.DecidingObject.{Ghosts}
-use Rattle.deciding.specs.Machine.{Machine}
-use Rattle.deciding.specs.Refusable.{Refusable, refusable, refusable_deciding, RefusableReached, with_refusal}
+use Rattle.deciding.specs.declared.refusable.Refusable.{Refusable}
+use Rattle.deciding.specs.Refusable.{RefusableReached, with_refusal}
 use Rattle.sequence.specs.declared.Sequence.{Sequence}
 use Rattle.sequence.specs.Joint.{Pair, pair, joint, goes_on}
 use Rattle.sequence.specs.JointDeciding.{joint_deciding}
 use Rattle.sequence.specs.Making.{sequence_made}
 
 module _ {X Y : Type 0} (G : Ghosts X) (K : Ghosts Y) where
-  abbrev pub sequence_of : Machine
-  sequence_of = refusable (joint G.machine K.machine)
-
-  abbrev pub state_of : Sequence X Y → Refusable (Pair G.machine.State K.machine.State)
-  state_of q = with_refusal (pair (G.state q.first) (K.state q.second)) q.refused
-
   -- what a sequence is as a deciding object, for clauses that name it
   abbrev pub both : Ghosts (Sequence X Y)
   both = record {
-    machine = sequence_of;
-    deciding = refusable_deciding (joint G.machine K.machine) (joint_deciding G.machine K.machine G.deciding K.deciding);
-    state = state_of;
+    machine = joint G.machine K.machine;
+    deciding = joint_deciding G.machine K.machine G.deciding K.deciding;
+    state = λ q. pair (G.state q.first) (K.state q.second);
   }
 
-  abbrev pub Reached : Sequence X Y → Type 0
-  Reached q = RefusableReached (joint G.machine K.machine) (joint_deciding G.machine K.machine G.deciding K.deciding) (state_of q)
+  abbrev pub Joined : Sequence X Y → Type 0
+  Joined q = both.deciding.Reached (both.state q)
 
-  -- it is reached, and its making was not refused
-  abbrev pub Standing : Sequence X Y → Type 0
-  Standing q = (q.refused ≡ None) × Reached q
+  -- what a making leaves: a sequence, and why it was refused, if it was
+  abbrev pub state_of : Refusable (Sequence X Y) → Refusable (Pair G.machine.State K.machine.State)
+  state_of q = with_refusal (both.state q.inner) q.refused
+
+  abbrev pub Reached : Refusable (Sequence X Y) → Type 0
+  Reached q = RefusableReached both.machine both.deciding (state_of q)
 
   -- both parts began new
   abbrev pub BothReached : X → Y → Type 0

@@ -14,59 +14,39 @@ impl<X: DecidingObject, Y: DecidingObject> DecidingObject for Sequence<X, Y> {
     ghost state = { (both X.DecidingObject Y.DecidingObject).state };
 
     fn stations(&self) -> u8 {
-        match self.refused {
-            None => self.first.stations(),
-            Some(_) => 0,
-        }
+        self.first.stations()
     }
 
     fn limit(&self) -> u16 {
-        match self.refused {
-            None => self.first.limit().saturating_add(self.second.limit()),
-            Some(_) => 0,
-        }
+        self.first.limit().saturating_add(self.second.limit())
     }
 
     fn registers(&self) -> u16 {
-        match self.refused {
-            None => self
-                .first
-                .registers()
-                .saturating_add(self.second.registers()),
-            Some(_) => 0,
-        }
+        let first = self.first.registers();
+        first.saturating_add(self.second.registers())
     }
 
     fn ratifying(&self) -> bool {
-        match self.refused {
-            None => self.first.ratifying() || self.second.ratifying(),
-            Some(_) => false,
-        }
+        self.first.ratifying() || self.second.ratifying()
     }
 
     fn refused(&self) -> Option<Refusal> {
-        self.refused
+        None // a sequence that was refused is in a `Refusable`
     }
 
     fn record(&self, station: u8) -> Record {
-        match self.refused {
-            None => join(self.first.record(station), self.second.record(station)),
-            Some(_) => Record::Away,
-        }
+        join(self.first.record(station), self.second.record(station))
     }
 
     fn enter(&mut self, station: u8, mark: u8) -> Result<(), Refusal> {
-        match self.refused {
-            None => self.first.enter(station, mark),
-            Some(_) => Err(Refusal::NoSuchStation),
-        }
+        self.first.enter(station, mark)
     }
 
     fn step(&mut self, station: u8, coin: u8) -> Result<(Operation, Option<Outcome>), Refusal> {
-        match self.refused {
-            None if goes_on(self.first.record(station)) => self.step_second(station, coin),
-            None => self.step_first(station, coin),
-            Some(_) => Err(Refusal::NoSuchStation),
+        if goes_on(self.first.record(station)) {
+            self.step_second(station, coin)
+        } else {
+            self.step_first(station, coin)
         }
     }
 }

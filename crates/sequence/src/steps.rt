@@ -1,7 +1,7 @@
 ghost use Rattle.std.specs.Prelude.{◌≡◌, ℕ, ◌+◌, ◌^◌, ◌<◌, true, false};
 ghost use Rattle.deciding.specs.Calls.{Stepping};
 ghost use Rattle.sequence.specs.Joint.{StepsFit, joined, moved, goes_on};
-ghost use Rattle.sequence.specs.States.{Standing, sequence_of, state_of};
+ghost use Rattle.sequence.specs.States.{Joined, both};
 
 use super::Sequence;
 use deciding::object::DecidingObject;
@@ -12,13 +12,13 @@ use refusal::Refusal;
 pub(super) fn goes_on(known: Record) -> bool
     ensures { result ≡ goes_on known }
 {
-    match known {
+    matches!(
+        known,
         Record::Answered {
             outcome: Outcome::Adopt(_),
             ..
-        } => true,
-        _ => false,
-    }
+        }
+    )
 }
 
 // What a station's two records come to.
@@ -67,20 +67,16 @@ impl<X: DecidingObject, Y: DecidingObject> Sequence<X, Y> {
         station: u8,
         coin: u8,
     ) -> Result<(Operation, Option<Outcome>), Refusal>
-        ensures { Standing X.DecidingObject Y.DecidingObject self.old →
+        ensures { Joined X.DecidingObject Y.DecidingObject self.old →
             goes_on (X.DecidingObject.machine.record_of (X.DecidingObject.state self.old.first) station) ≡ false →
-            Stepping (sequence_of X.DecidingObject Y.DecidingObject) (state_of X.DecidingObject Y.DecidingObject self.old) station coin result
-            (state_of X.DecidingObject Y.DecidingObject self.new) }
+            let whole = both X.DecidingObject Y.DecidingObject in Stepping whole.machine (whole.state self.old) station coin result (whole.state self.new) }
     {
         let (operation, outcome) = self.first.step(station, coin)?;
-        match outcome {
-            Some(Outcome::Adopt(mark)) => {
-                self.second.enter(station, mark)?;
-                Ok((operation, None))
-            }
-            Some(Outcome::Commit(mark)) => Ok((operation, Some(Outcome::Commit(mark)))),
-            None => Ok((operation, None)),
+        if let Some(Outcome::Adopt(mark)) = outcome {
+            self.second.enter(station, mark)?;
+            return Ok((operation, None));
         }
+        Ok((operation, outcome))
     }
 
     // A step of a station that came out of the first part with a mark.
@@ -89,10 +85,9 @@ impl<X: DecidingObject, Y: DecidingObject> Sequence<X, Y> {
         station: u8,
         coin: u8,
     ) -> Result<(Operation, Option<Outcome>), Refusal>
-        ensures { Standing X.DecidingObject Y.DecidingObject self.old →
+        ensures { Joined X.DecidingObject Y.DecidingObject self.old →
             goes_on (X.DecidingObject.machine.record_of (X.DecidingObject.state self.old.first) station) ≡ true →
-            Stepping (sequence_of X.DecidingObject Y.DecidingObject) (state_of X.DecidingObject Y.DecidingObject self.old) station coin result
-            (state_of X.DecidingObject Y.DecidingObject self.new) }
+            let whole = both X.DecidingObject Y.DecidingObject in Stepping whole.machine (whole.state self.old) station coin result (whole.state self.new) }
     {
         let (operation, outcome) = self.second.step(station, coin)?;
         Ok((shifted(operation, self.first.registers()), outcome))

@@ -8,7 +8,8 @@ use Rattle.deciding.specs.Laws.{marks}
 use Rattle.deciding.specs.Machine.{Machine}
 use Rattle.deciding.specs.Deciding.{Deciding}
 use Rattle.deciding.specs.Calls.{Entering, Stepping, entering_keeps, stepping_keeps}
-use Rattle.deciding.specs.Refusable.{Refusable, refusable, with_refusal, entry_made, stepping_made}
+use Rattle.deciding.specs.declared.refusable.Refusable.{Refusable}
+use Rattle.deciding.specs.Refusable.{refusable, with_refusal, entry_made, stepping_made}
 use Rattle.trial.specs.declared.call.Call.{Call}
 use Rattle.trial.specs.declared.call.Call.TheVariants.{Enter, Step, Stop}
 use Rattle.trial.specs.declared.call.Answer.{Answer}

@@ -3,7 +3,8 @@ use Rattle.std.specs.Prelude.{◌≡◌, ℕ, false, List, length, slice_index_o
 use Rattle.deciding.specs.declared.object.DecidingObject.{Ghosts}
 use Rattle.deciding.specs.declared.record.Record.TheVariants.{Away}
 use Rattle.deciding.specs.Machine.{Machine}
-use Rattle.deciding.specs.Refusable.{Refusable, refusable, RefusableReached, with_refusal}
+use Rattle.deciding.specs.declared.refusable.Refusable.{Refusable}
+use Rattle.deciding.specs.Refusable.{refusable, RefusableReached, with_refusal}
 use Rattle.trial.specs.declared.call.Call.{Call}
 use Rattle.trial.specs.declared.call.Answer.{Answer}
 use Rattle.trial.specs.declared.Trial.{Trial}

@@ -6,7 +6,7 @@ ghost use Rattle.waiting.specs.Waiting.{waiting_conciliator};
 ghost use Rattle.waiting.specs.WaitingKept.{waiting_kept};
 
 use deciding::record::Outcome;
-use machine::protocol::Protocol;
+use machine::protocol::{Proposer, Protocol};
 use machine::status::Plan;
 use refusal::Refusal;
 
@@ -48,22 +48,21 @@ impl Protocol for Waiting {
         false
     }
 
-    fn question(&self) -> Option<Refusal> {
-        None // it asks nothing of its own
+    fn question(&self) -> Result<(), Refusal> {
+        Ok(()) // it asks nothing of its own
     }
 
     fn begin(&self) -> WaitingPhase {
         WaitingPhase::Wait { reads: 0 }
     }
 
-    fn plan(&self, _station: u8, _proposal: u8, _phase: &WaitingPhase) -> Plan {
+    fn plan(&self, _proposer: Proposer, _phase: &WaitingPhase) -> Plan {
         Plan::Read(0)
     }
 
     fn advance(
         &self,
-        _station: u8,
-        proposal: u8,
+        proposer: Proposer,
         phase: &mut WaitingPhase,
         _content: u16,
         _coin: u8,
@@ -71,7 +70,7 @@ impl Protocol for Waiting {
         let WaitingPhase::Wait { reads } = *phase;
         let reads = reads.saturating_add(1);
         if reads >= self.limit() {
-            return Some(Outcome::Adopt(proposal));
+            return Some(Outcome::Adopt(proposer.proposal));
         }
         *phase = WaitingPhase::Wait { reads };
         None

@@ -1,5 +1,6 @@
 use Rattle.std.proofs.Common.{sym, subst}
-use Rattle.deciding.specs.Refusable.{Refusable, refusable_deciding, RefusableReached}
+use Rattle.deciding.specs.declared.refusable.Refusable.{Refusable}
+use Rattle.deciding.specs.Refusable.{refusable_deciding, RefusableReached}
 use Rattle.trial.specs.Perform.{TrialState}
 use Rattle.trial.specs.Trials.{tried, whole}
 use Rattle.trial.proofs.Performing.{perform_reached}
