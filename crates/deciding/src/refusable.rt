@@ -24,6 +24,13 @@ impl<T> Refusable<T> {
             refused: asked.err(),
         }
     }
+
+    // Why the making was refused, if it was.
+    pub fn refusal(&self) -> Option<Refusal>
+        ensures { result ≡ self.now.refused }
+    {
+        self.refused
+    }
 }
 
 impl<T: DecidingObject> DecidingObject for Refusable<T> {
@@ -62,7 +69,7 @@ impl<T: DecidingObject> DecidingObject for Refusable<T> {
     }
 
     fn refused(&self) -> Option<Refusal> {
-        self.refused
+        self.refusal()
     }
 
     fn record(&self, station: u8) -> Record {

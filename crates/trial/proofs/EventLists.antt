@@ -1,5 +1,5 @@
 -- One more event: what it adds to a list of events, and how a station's record goes along with it.
-use Rattle.std.proofs.Common.{◌≡◌, ℕ, ◌+◌, ◌≢◌, ◌⊎◌, ◌↔◌, List, [], ◌∷◌, ◌++◌, Some, None, Option, refl, inl, inr, ⊎_elim, arith}
+use Rattle.std.proofs.Common.{◌≡◌, ℕ, ◌+◌, ◌≢◌, ◌⊎◌, ◌↔◌, List, [], ◌∷◌, ◌++◌, Some, None, Option, refl, inl, inr, ⊎_elim, arith, Ok, Err}
 use Rattle.std.proofs.lemmas.Bool.{eq-eqb, ne_eqb}
 use Rattle.deciding.specs.declared.record.Outcome.{Outcome}
 use Rattle.deciding.specs.declared.record.Record.{Record}
@@ -9,7 +9,7 @@ use Rattle.deciding.specs.Laws.{Proposes, Ends, stepped as record_after}
 use Rattle.refusal.specs.declared.Refusal.{Refusal}
 use Rattle.trial.specs.declared.call.Call.{Call}
 use Rattle.trial.specs.declared.call.Call.TheVariants.{Enter as enter, Step as step, Stop as stop}
-use Rattle.trial.specs.declared.call.Answer.TheVariants.{Refused as refused, Entered as entered, Stepped as stepped, Stopped as stopped}
+use Rattle.trial.specs.declared.call.Effect.TheVariants.{Entered as entered, Stepped as stepped, Stopped as stopped}
 use Rattle.trial.specs.Events.{Event, ◌gives◌, Among, steps, steps_in}
 use Rattle.trial.specs.Law.{steps_of, Shows}
 
@@ -38,9 +38,9 @@ steps_more s y (x ∷ xs) = omega (arith, steps_more s y xs)
 
 -- the record of s goes from r to r' with the event y
 pub record Turns (s : ℕ) (r : Record) (y : Event) (r' : Record) : Type 0 where
-  pub proposal : (v : ℕ) → Proposes r' v ↔ (Proposes r v ⊎ ((enter s v gives entered) ≡ y))
+  pub proposal : (v : ℕ) → Proposes r' v ↔ (Proposes r v ⊎ ((enter s v gives Ok entered) ≡ y))
   pub count : steps_of r' ≡ steps_of r + steps_in s y
-  pub outcome : (o : Outcome) → Ends r' o ↔ (Ends r o ⊎ ((c : ℕ) × (i : Operation) × ((step s c gives stepped i (Some o)) ≡ y)))
+  pub outcome : (o : Outcome) → Ends r' o ↔ (Ends r o ⊎ ((c : ℕ) × (i : Operation) × ((step s c gives Ok (stepped i (Some o))) ≡ y)))
 
 pub shows_more : (s : ℕ) (past : List Event) (y : Event) (r r' : Record) → Turns s r y r' → Shows s past r → Shows s (more past y) r'
 shows_more s past y r r' t h = record {
@@ -51,8 +51,8 @@ shows_more s past y r r' t h = record {
 
 -- an event that is no accepted enter or step of s
 pub record Quiet (s : ℕ) (y : Event) : Type 0 where
-  pub no_enter : (v : ℕ) → (enter s v gives entered) ≢ y
-  pub no_step : (c : ℕ) (i : Operation) (o : Option Outcome) → (step s c gives stepped i o) ≢ y
+  pub no_enter : (v : ℕ) → (enter s v gives Ok entered) ≢ y
+  pub no_step : (c : ℕ) (i : Operation) (o : Option Outcome) → (step s c gives Ok (stepped i o)) ≢ y
   pub count : steps_in s y ≡ 0
 
 pub quiet_turns : (s : ℕ) (r : Record) (y : Event) → Quiet s y → Turns s r y r
@@ -65,31 +65,31 @@ quiet_turns s r y q = record {
 apart : ◌≡◌ {A = ℕ} 0 1 → ⊥
 apart e = omega arith
 
-pub refused_quiet : (s : ℕ) (c : Call) (k : Refusal) → Quiet s (c gives refused k)
+pub refused_quiet : (s : ℕ) (c : Call) (k : Refusal) → Quiet s (c gives Err k)
 refused_quiet s c k = record { no_enter = λ v e. apart (cc); no_step = λ d i o e. apart (cc); count = none c }
   where
-    none : (c : Call) → steps_in s (c gives refused k) ≡ 0
+    none : (c : Call) → steps_in s (c gives Err k) ≡ 0
     none (enter t v) = refl
     none (step t d) = refl
     none (stop t) = refl
 
-pub stopped_quiet : (s t : ℕ) → Quiet s (stop t gives stopped)
+pub stopped_quiet : (s t : ℕ) → Quiet s (stop t gives Ok stopped)
 stopped_quiet s t = record { no_enter = λ v e. apart (cc); no_step = λ d i o e. apart (cc); count = refl }
 
-pub entered_quiet : (s t v : ℕ) → s ≢ t → Quiet s (enter t v gives entered)
+pub entered_quiet : (s t v : ℕ) → s ≢ t → Quiet s (enter t v gives Ok entered)
 entered_quiet s t v h = record { no_enter = λ w e. h (cc); no_step = λ d i o e. apart (cc); count = refl }
 
-pub stepped_quiet : (s t c : ℕ) (i : Operation) (o : Option Outcome) → s ≢ t → Quiet s (step t c gives stepped i o)
+pub stepped_quiet : (s t c : ℕ) (i : Operation) (o : Option Outcome) → s ≢ t → Quiet s (step t c gives Ok (stepped i o))
 stepped_quiet s t c i o h = record { no_enter = λ w e. apart (cc); no_step = λ d j q e. h (cc); count = rw (ne_eqb s t h) }
 
-pub entered_turns : (s v : ℕ) → Turns s Away (enter s v gives entered) (UnderWay v 0)
+pub entered_turns : (s v : ℕ) → Turns s Away (enter s v gives Ok entered) (UnderWay v 0)
 entered_turns s v = record {
   proposal = λ w. (λ e. inr (cc), ⊎_elim absurd (λ e. cc));
   count = omega arith;
   outcome = λ o. (absurd, ⊎_elim (λ p. p) (λ e. apart (cc e.2)));
 }
 
-pub stepped_turns : (s c v k : ℕ) (i : Operation) (o : Option Outcome) → Turns s (UnderWay v k) (step s c gives stepped i o) (record_after (UnderWay v k) o)
+pub stepped_turns : (s c v k : ℕ) (i : Operation) (o : Option Outcome) → Turns s (UnderWay v k) (step s c gives Ok (stepped i o)) (record_after (UnderWay v k) o)
 stepped_turns s c v k i None = record {
   proposal = λ w. (inl, ⊎_elim (λ p. p) (λ e. cc));
   count = rw (eq-eqb s s refl);

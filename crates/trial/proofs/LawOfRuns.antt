@@ -1,5 +1,5 @@
 -- The law of runs: the trial of a deciding object goes along with the events, and so these obey the law.
-use Rattle.std.proofs.Common.{◌≡◌, ℕ, ◌<◌, ◌≤◌, Bool, true, false, cond, not, eqb, ltb, ◌≢◌, ◌⊎◌, List, [], ◌∷◌, ◌++◌, Some, None, Decides, Option, refl, ◌∙◌, inl, inr, ⊎_elim, append_assoc, append-nil, arith}
+use Rattle.std.proofs.Common.{◌≡◌, ℕ, ◌<◌, ◌≤◌, Bool, true, false, cond, not, eqb, ltb, ◌≢◌, ◌⊎◌, List, [], ◌∷◌, ◌++◌, Some, None, Decides, Option, refl, ◌∙◌, inl, inr, ⊎_elim, append_assoc, append-nil, arith, Ok, Err}
 use mathlib.Core.Bool.{false≢true}
 use Rattle.std.proofs.lemmas.Bool.{eq-eqb, ne_eqb, cases_eq}
 use Rattle.std.proofs.lemmas.Bool.Decides.{Decides-ltb, Decides-not, Decides-like, not_from_Decides}
@@ -16,8 +16,8 @@ use Rattle.deciding.specs.Deciding.{Deciding}
 use Rattle.deciding.specs.Calls.{entry_by, step_by}
 use Rattle.trial.specs.declared.call.Call.{Call}
 use Rattle.trial.specs.declared.call.Call.TheVariants.{Enter as enter, Step as step, Stop as stop}
-use Rattle.trial.specs.declared.call.Answer.{Answer}
-use Rattle.trial.specs.declared.call.Answer.TheVariants.{Refused as refused, Entered as entered, Stepped as stepped, Stopped as stopped}
+use Rattle.trial.specs.Answers.{Answer}
+use Rattle.trial.specs.declared.call.Effect.TheVariants.{Entered as entered, Stepped as stepped, Stopped as stopped}
 use Rattle.trial.specs.Events.{Event, ◌gives◌, events_of, Among, Comes, Entered, Brought, Stopped}
 use Rattle.trial.specs.Law.{Question, is_station, not_stopped, not_entered, has_entered, no_outcome, refusal, questions, Yes, FirstNo, AllYes, Judged, steps_of, Shows, Lawful, InRange}
 use Rattle.trial.specs.Perform.{TrialState, begun, station_of, Small, AllSmall, Performed, entered_as, stepped_as, unless, perform, answers, last}
@@ -55,11 +55,11 @@ module _ (m : Machine) where
   says x s no_outcome = not (answered (m.record_of x.object s))
 
   abbrev accepted : TrialState m.State → Call → Performed m
-  accepted x (enter s v) = record { answer = entered; next = record { object = m.enter x.object s v; stopped = x.stopped } }
+  accepted x (enter s v) = record { answer = Ok entered; next = record { object = m.enter x.object s v; stopped = x.stopped } }
   accepted x (step s c) =
       let r = m.step x.object s c in
-      record { answer = stepped r.operation r.outcome; next = record { object = r.next; stopped = x.stopped } }
-  accepted x (stop s) = record { answer = stopped; next = record { object = x.object; stopped = λ t. cond (eqb t s) true (x.stopped t) } }
+      record { answer = Ok (stepped r.operation r.outcome); next = record { object = r.next; stopped = x.stopped } }
+  accepted x (stop s) = record { answer = Ok stopped; next = record { object = x.object; stopped = λ t. cond (eqb t s) true (x.stopped t) } }
 
   by_questions : (x : TrialState m.State) (c : Call) → perform m x c ≡ unless m x (first_no (says x (station_of c)) (questions c)) (accepted x c)
   by_questions x (enter s v) = go (ltb s (m.stations x.object)) (x.stopped s) (m.record_of x.object s)
@@ -171,13 +171,13 @@ module _ (m : Machine) (d : Deciding m) (start : m.State) where
       Decides-like (not (answered r)) (λ none o e. none (o, e)) (λ none e. none e.0 e.1) (Decides-not (answered r) (answered_shown s past r (f.shows s)))
 
   -- no stop: the marks of the stopped stations stay
-  stops_stay : (past : List Event) (y : Event) (t : ℕ) (b : Bool) → (stop t gives stopped) ≢ y → Decides b (Stopped t past) → Decides b (Stopped t (more past y))
+  stops_stay : (past : List Event) (y : Event) (t : ℕ) (b : Bool) → (stop t gives Ok stopped) ≢ y → Decides b (Stopped t past) → Decides b (Stopped t (more past y))
   stops_stay past y t b h = Decides-like b (among_past _ y past) (λ a. ⊎_elim (λ p. p) (λ e. absurd (h e)) (among_more _ y past a))
 
   -- what is owed of the answer to a call
   record Follows (past : List Event) (c : Call) (p : Performed m) : Type 0 where
     judged : Judged (Yes (m.stations start) past (station_of c)) c p.answer
-    in_range : (s k : ℕ) (i : Operation) (o : Option Outcome) → (step s k gives stepped i o) ≡ (c gives p.answer) → i.register < m.registers start
+    in_range : (s k : ℕ) (i : Operation) (o : Option Outcome) → (step s k gives Ok (stepped i o)) ≡ (c gives p.answer) → i.register < m.registers start
     next : Followed (more past (c gives p.answer)) p.next
 
   -- one more event
@@ -195,7 +195,7 @@ module _ (m : Machine) (d : Deciding m) (start : m.State) where
     }
 
     -- of a call that moved the object at s
-    moved : (y : Event) (s : ℕ) (z : m.State) → d.Reached z → Beside m s x.object z → Turns s (m.record_of x.object s) y (m.record_of z s) → ((t : ℕ) → t ≢ s → Quiet t y) → ((t : ℕ) → (stop t gives stopped) ≢ y) →
+    moved : (y : Event) (s : ℕ) (z : m.State) → d.Reached z → Beside m s x.object z → Turns s (m.record_of x.object s) y (m.record_of z s) → ((t : ℕ) → t ≢ s → Quiet t y) → ((t : ℕ) → (stop t gives Ok stopped) ≢ y) →
         Followed (more past y) (record { object = z; stopped = x.stopped })
     moved y s z 𝓏 b turns q h = record {
       reached = 𝓏;
@@ -215,7 +215,7 @@ module _ (m : Machine) (d : Deciding m) (start : m.State) where
     accepts (enter s v) small h = record {
       judged = inr (h, refl);
       in_range = λ t k i o e. apart (cc);
-      next = moved (enter s v gives entered) s (m.enter x.object s v) (d.enter_reached x.object s v f.reached g) (d.enter_beside x.object s v f.reached g) (rw (g.away, d.enter_own x.object s v f.reached g) (entered_turns s v)) (λ t e. entered_quiet t s v e) (λ t e. apart (cc));
+      next = moved (enter s v gives Ok entered) s (m.enter x.object s v) (d.enter_reached x.object s v f.reached g) (d.enter_beside x.object s v f.reached g) (rw (g.away, d.enter_own x.object s v f.reached g) (entered_turns s v)) (λ t e. entered_quiet t s v e) (λ t e. apart (cc));
     }
       where
         g : Enters m x.object s v
@@ -223,7 +223,7 @@ module _ (m : Machine) (d : Deciding m) (start : m.State) where
     accepts (step s c) small h = record {
       judged = inr (h, (r.operation, r.outcome, refl));
       in_range = λ t k i o e. let z : i ≡ r.operation = cc in rw (z, ← f.registers) (d.step_below x.object s c w.0 w.1 f.reached g);
-      next = moved (step s c gives stepped r.operation r.outcome) s r.next (d.step_reached x.object s c w.0 w.1 f.reached g) (d.step_beside x.object s c w.0 w.1 f.reached g)
+      next = moved (step s c gives Ok (stepped r.operation r.outcome)) s r.next (d.step_reached x.object s c w.0 w.1 f.reached g) (d.step_beside x.object s c w.0 w.1 f.reached g)
           (rw (w.2, d.step_own x.object s c w.0 w.1 f.reached g) (stepped_turns s c w.0 w.1 r.operation r.outcome)) (λ t e. stepped_quiet t s c r.operation r.outcome e) (λ t e. apart (cc));
     }
       where
@@ -238,12 +238,12 @@ module _ (m : Machine) (d : Deciding m) (start : m.State) where
     accepts (stop s) small h = record {
       judged = inr (h, refl);
       in_range = λ t k i o e. apart (cc);
-      next = unmoved (stop s gives stopped) (λ t. stopped_quiet t s) (λ t. cond (eqb t s) true (x.stopped t)) (λ t. stops t (cases_eq t s));
+      next = unmoved (stop s gives Ok stopped) (λ t. stopped_quiet t s) (λ t. cond (eqb t s) true (x.stopped t)) (λ t. stops t (cases_eq t s));
     }
       where
-        stops : (t : ℕ) → (t ≡ s) ⊎ (t ≡ s → ⊥) → Decides (cond (eqb t s) true (x.stopped t)) (Stopped t (more past (stop s gives stopped)))
-        stops t (inl e) = rw (eq-eqb t s e) (λ _. among_last (stop t gives stopped) (stop s gives stopped) past (cc), λ _. refl)
-        stops t (inr e) = rw (ne_eqb t s e) (stops_stay past (stop s gives stopped) t (x.stopped t) (λ q. e (cc)) (f.stops t))
+        stops : (t : ℕ) → (t ≡ s) ⊎ (t ≡ s → ⊥) → Decides (cond (eqb t s) true (x.stopped t)) (Stopped t (more past (stop s gives Ok stopped)))
+        stops t (inl e) = rw (eq-eqb t s e) (λ _. among_last (stop t gives Ok stopped) (stop s gives Ok stopped) past (cc), λ _. refl)
+        stops t (inr e) = rw (ne_eqb t s e) (stops_stay past (stop s gives Ok stopped) t (x.stopped t) (λ q. e (cc)) (f.stops t))
 
     follows : (c : Call) → Small c → Follows past c (perform m x c)
     follows c small = rw (by_questions m x c) (go (first_no (says m x (station_of c)) (questions c)) (verdict (says m x (station_of c)) (Yes (m.stations start) past (station_of c)) (agrees past x f (station_of c)) (questions c)))
@@ -253,7 +253,7 @@ module _ (m : Machine) (d : Deciding m) (start : m.State) where
         go (Some k) (fails j h) = record {
           judged = inl (k, refl, h);
           in_range = λ t n i o e. apart (cc);
-          next = unmoved (c gives refused k) (λ t. refused_quiet t c k) x.stopped (λ t. stops_stay past (c gives refused k) t (x.stopped t) (λ e. apart (cc)) (f.stops t));
+          next = unmoved (c gives Err k) (λ t. refused_quiet t c k) x.stopped (λ t. stops_stay past (c gives Err k) t (x.stopped t) (λ e. apart (cc)) (f.stops t));
         }
 
   -- THE RUN: at its end, and wherever an event comes in it
@@ -290,13 +290,13 @@ module _ (m : Machine) (d : Deciding m) (start : m.State) where
     ended s o = ((f.shows s).outcome o).1
 
   -- right after a step that brought the outcome o
-  module _ (past : List Event) (s c : ℕ) (i : Operation) (o : Outcome) (x : TrialState m.State) (f : Followed (more past (step s c gives stepped i (Some o))) x) where
+  module _ (past : List Event) (s c : ℕ) (i : Operation) (o : Outcome) (x : TrialState m.State) (f : Followed (more past (step s c gives Ok (stepped i (Some o)))) x) where
     y : Event
-    y = step s c gives stepped i (Some o)
+    y = step s c gives Ok (stepped i (Some o))
 
     entered_before : (t w : ℕ) → Proposes (m.record_of x.object t) w → Entered t w past
     unfolding y
-    entered_before t w h = ⊎_elim (λ p. p) (λ e. apart (cc)) (among_more (enter t w gives entered) y past (proposed (more past y) x f t w h))
+    entered_before t w h = ⊎_elim (λ p. p) (λ e. apart (cc)) (among_more (enter t w gives Ok entered) y past (proposed (more past y) x f t w h))
 
     now_ended : Ends (m.record_of x.object s) o
     unfolding y
@@ -342,7 +342,7 @@ module _ (m : Machine) (d : Deciding m) (start : m.State) where
     lawful = record {
       judged = λ before c a h. (where_comes before c a h).1.judged;
       valid = λ before s c i o h.
-          let (z, f) = where_comes before (step s c) (stepped i (Some o)) h in
+          let (z, f) = where_comes before (step s c) (Ok (stepped i (Some o))) h in
           valid_here before s c i o z f.next;
       coherent = λ s t u o b e. (laws events final at_end).coherent s t u o (ended events final at_end s (Commit u) b) (ended events final at_end t o e);
       bounded = λ s. rw (← (at_end.shows s).count) (within (m.limit start) (m.ratifying start) (m.record_of final.object) (laws events final at_end) s (m.record_of final.object s) refl);
@@ -353,7 +353,7 @@ module _ (m : Machine) (d : Deciding m) (start : m.State) where
           (⊎_elim inl (λ e. inr (e.0, ((at_end.shows s).outcome e.0).0 e.1))
           (going_or_ended (m.limit start) (m.ratifying start) (m.record_of final.object) (laws events final at_end) s r refl v entered));
       ratifies = λ r before s c i o h.
-          let (z, f) = where_comes before (step s c) (stepped i (Some o)) h in
+          let (z, f) = where_comes before (step s c) (Ok (stepped i (Some o))) h in
           ratifies_here before s c i o z f.next r;
       never = λ r s u h. let z = (laws events final at_end).never r s (Commit u) (ended events final at_end s (Commit u) h) in apart (cc);
       shows = at_end.shows;
@@ -361,5 +361,5 @@ module _ (m : Machine) (d : Deciding m) (start : m.State) where
 
     pub in_range : InRange (m.registers start) events
     in_range s c i o h =
-        let (before, after, e) = among_comes (step s c gives stepped i o) events h in
-        (where_comes before (step s c) (stepped i o) (after, e)).1.in_range s c i o refl
+        let (before, after, e) = among_comes (step s c gives Ok (stepped i o)) events h in
+        (where_comes before (step s c) (Ok (stepped i o)) (after, e)).1.in_range s c i o refl

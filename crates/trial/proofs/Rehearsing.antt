@@ -5,7 +5,7 @@ use Rattle.deciding.specs.declared.record.Record.TheVariants.{Away}
 use Rattle.deciding.specs.Machine.{Machine}
 use Rattle.deciding.specs.Deciding.{Deciding}
 use Rattle.trial.specs.declared.call.Call.{Call}
-use Rattle.trial.specs.declared.call.Answer.{Answer}
+use Rattle.trial.specs.Answers.{Answer}
 use Rattle.trial.specs.Events.{events_of}
 use Rattle.trial.specs.Law.{Lawful, InRange}
 use Rattle.trial.specs.Perform.{TrialState, begun, Small, AllSmall, perform, Performs, answers, last}

@@ -1,11 +1,11 @@
 -- Calls with their answers, and what can be read off a list of them.
-use Rattle.std.specs.Prelude.{◌≡◌, ℕ, ◌+◌, cond, ◌⊎◌, List, [], ◌∷◌, ◌++◌, Some, ◌==◌}
+use Rattle.std.specs.Prelude.{◌≡◌, ℕ, ◌+◌, cond, ◌⊎◌, List, [], ◌∷◌, ◌++◌, Some, ◌==◌, Ok, Err}
 use Rattle.deciding.specs.declared.record.Outcome.{Outcome}
 use Rattle.deciding.specs.declared.record.Operation.{Operation}
 use Rattle.trial.specs.declared.call.Call.{Call}
 use Rattle.trial.specs.declared.call.Call.TheVariants.{Enter as enter, Step as step, Stop as stop}
-use Rattle.trial.specs.declared.call.Answer.{Answer}
-use Rattle.trial.specs.declared.call.Answer.TheVariants.{Refused as refused, Entered as entered, Stepped as stepped, Stopped as stopped}
+use Rattle.trial.specs.Answers.{Answer}
+use Rattle.trial.specs.declared.call.Effect.TheVariants.{Entered as entered, Stepped as stepped, Stopped as stopped}
 
 infix 5 ◌gives◌
 pub data Event : Type 0 where
@@ -27,23 +27,23 @@ Comes before e events = (after : List Event) × (events ≡ before ++ (e ∷ aft
 
 -- an enter of s with the mark v was accepted
 abbrev pub Entered : ℕ → ℕ → List Event → Type 0
-Entered s v events = Among (enter s v gives entered) events
+Entered s v events = Among (enter s v gives Ok entered) events
 
 -- a step of s brought the outcome o
 abbrev pub Brought : ℕ → Outcome → List Event → Type 0
-Brought s o events = (c : ℕ) × (i : Operation) × Among (step s c gives stepped i (Some o)) events
+Brought s o events = (c : ℕ) × (i : Operation) × Among (step s c gives Ok (stepped i (Some o))) events
 
 -- a stop of s was accepted
 abbrev pub Stopped : ℕ → List Event → Type 0
-Stopped s events = Among (stop s gives stopped) events
+Stopped s events = Among (stop s gives Ok stopped) events
 
 -- how many steps of s were accepted
 abbrev pub steps_in : ℕ → Event → ℕ
 steps_in s (enter t v gives a) = 0
-steps_in s (step t c gives refused q) = 0
-steps_in s (step t c gives entered) = 0
-steps_in s (step t c gives stepped i o) = cond (s == t) 1 0
-steps_in s (step t c gives stopped) = 0
+steps_in s (step t c gives Err q) = 0
+steps_in s (step t c gives Ok entered) = 0
+steps_in s (step t c gives Ok (stepped i o)) = cond (s == t) 1 0
+steps_in s (step t c gives Ok stopped) = 0
 steps_in s (stop t gives a) = 0
 
 abbrev pub steps : ℕ → List Event → ℕ

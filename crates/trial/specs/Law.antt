@@ -1,6 +1,6 @@
 -- THE LAW OF RUNS: what holds of every list of enters, steps and stops, and of the answers to them, whatever the deciding
 -- object is that they were put to. It speaks of the calls, the answers and the records at the end, and of nothing else.
-use Rattle.std.specs.Prelude.{◌≡◌, ℕ, ◌<◌, ◌≤◌, Bool, true, false, ◌⊎◌, ◌↔◌, List, [], ◌∷◌, Some, Option}
+use Rattle.std.specs.Prelude.{◌≡◌, ℕ, ◌<◌, ◌≤◌, Bool, true, false, ◌⊎◌, ◌↔◌, List, [], ◌∷◌, Some, Option, Ok, Err}
 use Rattle.refusal.specs.declared.Refusal.{Refusal}
 use Rattle.refusal.specs.declared.Refusal.TheVariants.{NoSuchStation, Stopped as WasStopped, AlreadyEntered, NotEntered, AlreadyAnswered}
 use Rattle.deciding.specs.declared.record.Outcome.{Outcome}
@@ -11,8 +11,8 @@ use Rattle.deciding.specs.declared.record.Operation.{Operation}
 use Rattle.deciding.specs.Laws.{mark, Proposes, Ends}
 use Rattle.trial.specs.declared.call.Call.{Call}
 use Rattle.trial.specs.declared.call.Call.TheVariants.{Enter as enter, Step as step, Stop as stop}
-use Rattle.trial.specs.declared.call.Answer.{Answer}
-use Rattle.trial.specs.declared.call.Answer.TheVariants.{Refused as refused, Entered as entered, Stepped as stepped, Stopped as stopped}
+use Rattle.trial.specs.Answers.{Answer}
+use Rattle.trial.specs.declared.call.Effect.TheVariants.{Entered as entered, Stepped as stepped, Stopped as stopped}
 use Rattle.trial.specs.Events.{Event, ◌gives◌, Among, Comes, Entered, Brought, Stopped, steps}
 use Rattle.trial.specs.Perform.{station_of}
 
@@ -51,13 +51,13 @@ AllYes holds (q ∷ qs) = holds q × AllYes holds qs
 
 -- the answer to an accepted call
 abbrev pub Accepted : Call → Answer → Type 0
-Accepted (enter s v) a = a ≡ entered
-Accepted (step s c) a = (i : Operation) × (o : Option Outcome) × (a ≡ stepped i o)
-Accepted (stop s) a = a ≡ stopped
+Accepted (enter s v) a = a ≡ Ok entered
+Accepted (step s c) a = (i : Operation) × (o : Option Outcome) × (a ≡ Ok (stepped i o))
+Accepted (stop s) a = a ≡ Ok stopped
 
 -- a call is refused by the first question that is answered no, and accepted where there is none
 abbrev pub Judged : (Question → Type 0) → Call → Answer → Type 0
-Judged holds c a = ((k : Refusal) × (a ≡ refused k) × FirstNo holds (questions c) k) ⊎ (AllYes holds (questions c) × Accepted c a)
+Judged holds c a = ((k : Refusal) × (a ≡ Err k) × FirstNo holds (questions c) k) ⊎ (AllYes holds (questions c) × Accepted c a)
 
 abbrev pub steps_of : Record → ℕ
 steps_of Away = 0
@@ -74,7 +74,7 @@ pub record Shows (s : ℕ) (events : List Event) (r : Record) : Type 0 where
 -- THE LAW, of n stations with this step limit: of all events since the trial began, and of the records after them.
 pub record Lawful (n limit : ℕ) (ratifying : Bool) (events : List Event) (record_of : ℕ → Record) : Type 0 where
   -- 1. An outcome has the mark of an enter accepted earlier.
-  pub valid : (before : List Event) (s c : ℕ) (i : Operation) (o : Outcome) → Comes before (step s c gives stepped i (Some o)) events → (t : ℕ) × Entered t (mark o) before
+  pub valid : (before : List Event) (s c : ℕ) (i : Operation) (o : Outcome) → Comes before (step s c gives Ok (stepped i (Some o))) events → (t : ℕ) × Entered t (mark o) before
   -- 2. If an answer commits u, every outcome, earlier and later, has the mark u.
   pub coherent : (s t u : ℕ) (o : Outcome) → Brought s (Commit u) events → Brought t o events → mark o ≡ u
   -- 3. Each call is judged by the events before it: refused with the first question that it fails, and else accepted.
@@ -83,7 +83,7 @@ pub record Lawful (n limit : ℕ) (ratifying : Bool) (events : List Event) (reco
   pub bounded : (s : ℕ) → steps s events ≤ limit
   pub in_time : (s v : ℕ) → Entered s v events → (steps s events < limit) ⊎ ((o : Outcome) × Brought s o events)
   -- 5. A ratifying object commits where all enters accepted until then have one mark; one that is not ratifying never commits.
-  pub ratifies : ratifying ≡ true → (before : List Event) (s c : ℕ) (i : Operation) (o : Outcome) → Comes before (step s c gives stepped i (Some o)) events →
+  pub ratifies : ratifying ≡ true → (before : List Event) (s c : ℕ) (i : Operation) (o : Outcome) → Comes before (step s c gives Ok (stepped i (Some o))) events →
       (v : ℕ) → ((t w : ℕ) → Entered t w before → w ≡ v) → o ≡ Commit v
   pub never : ratifying ≡ false → (s u : ℕ) → ¬ Brought s (Commit u) events
   -- 6. Each record shows what the events say of its station.
@@ -91,4 +91,4 @@ pub record Lawful (n limit : ℕ) (ratifying : Bool) (events : List Event) (reco
 
 -- besides: every step works on a register of the object
 abbrev pub InRange : ℕ → List Event → Type 0
-InRange registers events = (s c : ℕ) (i : Operation) (o : Option Outcome) → Among (step s c gives stepped i o) events → i.register < registers
+InRange registers events = (s c : ℕ) (i : Operation) (o : Option Outcome) → Among (step s c gives Ok (stepped i o)) events → i.register < registers

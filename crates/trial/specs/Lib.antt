@@ -1,3 +1,4 @@
+pub mod Answers
 pub mod Events
 pub mod Law
 pub mod Perform

@@ -11,8 +11,8 @@ use Rattle.deciding.specs.Machine.{Machine}
 use Rattle.deciding.specs.Sizes.{one_to_sixteen}
 use Rattle.trial.specs.declared.call.Call.{Call}
 use Rattle.trial.specs.declared.call.Call.TheVariants.{Enter, Step, Stop}
-use Rattle.trial.specs.declared.call.Answer.{Answer}
-use Rattle.trial.specs.declared.call.Answer.TheVariants.{Refused, Entered, Stepped, Stopped}
+use Rattle.trial.specs.Answers.{Answer}
+use Rattle.trial.specs.declared.call.Effect.TheVariants.{Entered, Stepped, Stopped}
 
 -- an object, and which stations were stopped
 pub record TrialState (S : Type 0) : Type 0 where
@@ -40,20 +40,16 @@ AllSmall (c ∷ cs) = Small c × AllSmall cs
 
 -- what each of the three calls answers by itself, as an answer
 abbrev pub entered_as : Result (Unit {0}) Refusal → Answer
-entered_as (Ok u) = Entered
-entered_as (Err e) = Refused e
+entered_as (Ok u) = Ok Entered
+entered_as (Err e) = Err e
 
 abbrev pub stepped_as : Result (Operation × Option Outcome) Refusal → Answer
-stepped_as (Ok r) = Stepped r.0 r.1
-stepped_as (Err e) = Refused e
+stepped_as (Ok r) = Ok (Stepped r.0 r.1)
+stepped_as (Err e) = Err e
 
 abbrev pub stopped_as : Result (Unit {0}) Refusal → Answer
-stopped_as (Ok u) = Stopped
-stopped_as (Err e) = Refused e
-
-abbrev pub granted : Option Refusal → Result (Unit {0}) Refusal
-granted None = Ok tt
-granted (Some q) = Err q
+stopped_as (Ok u) = Ok Stopped
+stopped_as (Err e) = Err e
 
 -- The making of a trial asks whether the pile has 1 to 16 stations, and whether all their records are away.
 abbrev pub trial_refusal : (m : Machine) → m.State → Option Refusal
@@ -76,12 +72,12 @@ module _ (m : Machine) where
   admitted x (Step s c) =
       let e = stepping m x.object s c in
       record { answer = stepped_as e.answer; next = record { object = e.state; stopped = x.stopped } }
-  admitted x (Stop s) = record { answer = Stopped; next = record { object = x.object; stopped = λ t. cond (t == s) true (x.stopped t) } }
+  admitted x (Stop s) = record { answer = Ok Stopped; next = record { object = x.object; stopped = λ t. cond (t == s) true (x.stopped t) } }
 
   -- a refused call leaves the trial as it is
   abbrev pub unless : TrialState m.State → Option Refusal → Performed → Performed
   unless x None p = p
-  unless x (Some q) p = record { answer = Refused q; next = x }
+  unless x (Some q) p = record { answer = Err q; next = x }
 
   abbrev pub perform : TrialState m.State → Call → Performed
   perform x c = unless x (admission x (station_of c)) (admitted x c)

@@ -6,7 +6,7 @@ use Rattle.deciding.specs.Machine.{Machine}
 use Rattle.deciding.specs.declared.refusable.Refusable.{Refusable}
 use Rattle.deciding.specs.Refusable.{refusable, RefusableReached, with_refusal}
 use Rattle.trial.specs.declared.call.Call.{Call}
-use Rattle.trial.specs.declared.call.Answer.{Answer}
+use Rattle.trial.specs.Answers.{Answer}
 use Rattle.trial.specs.declared.Trial.{Trial}
 use Rattle.trial.specs.Events.{events_of}
 use Rattle.trial.specs.Law.{Lawful, InRange}
@@ -29,7 +29,7 @@ module _ {D : Type 0} (G : Ghosts D) where
   whole = refusable G.machine
 
   abbrev pub tried : Trial D → TrialState (Refusable G.machine.State)
-  tried t = record { object = with_refusal (G.state t.pile) t.refused; stopped = λ s. slice_index_or t.stopped s false }
+  tried t = record { object = with_refusal (G.state t.pile.inner) t.pile.refused; stopped = λ s. slice_index_or t.stopped s false }
 
   -- the trial began with a pile begun new, and accepted calls led to where it is
   abbrev pub Reached : Trial D → Type 0

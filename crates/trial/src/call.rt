@@ -9,11 +9,12 @@ pub enum Call {
     Stop { station: u8 },
 }
 
-// What it answers.
+// What a call brings about that is not refused.
 #[derive(Clone, Copy, PartialEq, Eq, Debug)]
-pub enum Answer {
-    Refused(Refusal),
+pub enum Effect {
     Entered,
     Stepped(Operation, Option<Outcome>),
     Stopped,
 }
+
+pub type Answer = Result<Effect, Refusal>;

@@ -1,10 +1,11 @@
 ghost use Rattle.std.specs.Prelude.{◌≡◌, ℕ, ◌<◌, true, false, if◌then◌else◌, nat_eq, slice_index_or};
 ghost use Rattle.trial.specs.declared.call.Call.TheVariants.{Enter, Step, Stop};
-ghost use Rattle.trial.specs.Perform.{admission, granted, entered_as, stepped_as, stopped_as};
+ghost use Rattle.deciding.specs.Refusable.{granted};
+ghost use Rattle.trial.specs.Perform.{admission, entered_as, stepped_as, stopped_as};
 ghost use Rattle.trial.specs.Trials.{Does, Reached, tried, whole};
 
 use super::Trial;
-use super::call::{Answer, Call};
+use super::call::{Answer, Call, Effect};
 use deciding::object::DecidingObject;
 use deciding::record::{Operation, Outcome};
 use refusal::Refusal;
@@ -13,15 +14,13 @@ impl<D: DecidingObject> Trial<D> {
     fn is_stopped(&self, station: u8) -> bool
         ensures { result ≡ slice_index_or self.now.stopped station false }
     {
-        match self.stopped.get(usize::from(station)) {
-            Some(stopped) => *stopped,
-            None => false,
-        }
+        let stopped = self.stopped.get(usize::from(station));
+        stopped.copied().unwrap_or(false)
     }
 
     fn set_stopped(&mut self, station: u8)
         ensures marks { station < 16 → (t : ℕ) → slice_index_or self.new.stopped t false ≡ (if nat_eq t station then true else slice_index_or self.old.stopped t false) }
-        ensures rest { (self.new.pile ≡ self.old.pile) × (self.new.refused ≡ self.old.refused) }
+        ensures rest { self.new.pile ≡ self.old.pile }
     {
         if station < 16 {
             self.stopped[usize::from(station)] = true;
@@ -70,19 +69,19 @@ impl<D: DecidingObject> Trial<D> {
     pub fn perform(&mut self, call: Call) -> Answer
         ensures { Does D.DecidingObject self.old call result self.new }
     {
-        match call {
-            Call::Enter { station, mark } => match self.enter(station, mark) {
-                Ok(()) => Answer::Entered,
-                Err(refusal) => Answer::Refused(refusal),
-            },
-            Call::Step { station, coin } => match self.step(station, coin) {
-                Ok((operation, outcome)) => Answer::Stepped(operation, outcome),
-                Err(refusal) => Answer::Refused(refusal),
-            },
-            Call::Stop { station } => match self.stop(station) {
-                Ok(()) => Answer::Stopped,
-                Err(refusal) => Answer::Refused(refusal),
-            },
-        }
+        Ok(match call {
+            Call::Enter { station, mark } => {
+                self.enter(station, mark)?;
+                Effect::Entered
+            }
+            Call::Step { station, coin } => {
+                let (operation, outcome) = self.step(station, coin)?;
+                Effect::Stepped(operation, outcome)
+            }
+            Call::Stop { station } => {
+                self.stop(station)?;
+                Effect::Stopped
+            }
+        })
     }
 }
