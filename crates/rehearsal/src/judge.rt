@@ -1,34 +1,32 @@
-ghost use Rattle.std.specs.Prelude.{◌≡◌, ℕ, length, slice_index};
+ghost use Rattle.std.specs.Prelude.{◌≡◌, ◌-◌, length, slice_index};
 ghost use Rattle.schedule.specs.Reading.{item_of};
 ghost use Rattle.rehearsal.specs.Runs.{new_verdict, item_verdict};
-ghost use Rattle.rehearsal.specs.Serving.{Judges, Moves, GoesOn};
+ghost use Rattle.rehearsal.specs.Serving.{Judges, Moves, GoesOn, verdict_of};
 
 use super::verdict::{Start, Verdict};
 use deciding::questions::one_to_sixteen;
-use listing::ROOM;
+use listing::Listing;
 use refusal::Refusal;
 use schedule::command::Command;
 use schedule::pile::Pile;
 use schedule::reader::Reader;
 use trial::call::Call;
 
-// Reads the next command and asks of it what can be asked before a trial is: `room` is how many listing bytes are free.
-pub(super) fn judge(reader: &mut Reader, room: usize) -> Verdict
-    ensures judges { Judges reader.old.schedule.now reader.old.position room result reader.new.position }
+// Reads the next command and asks of it what can be asked before a trial is.
+pub(super) fn judge(reader: &mut Reader, listing: &Listing) -> Verdict
+    ensures judges { Judges reader.old.schedule.now reader.old.position (length listing.now.bytes.now - listing.now.end) result reader.new.position }
     ensures same { reader.new.schedule ≡ reader.old.schedule }
-    ensures moves { Moves (length reader.old.schedule.now) room reader.old.position result reader.new.position }
+    ensures moves { Moves (length reader.old.schedule.now) (length listing.now.bytes.now - listing.now.end) reader.old.position result reader.new.position }
 {
     if reader.is_done() {
         return Verdict::Ends(None);
     }
-    if room < ROOM {
+    if !listing.has_room() {
         return Verdict::Ends(Some(Refusal::ListingFull));
     }
     match reader.next() {
-        Ok(next) => match next {
-            Some(command) => judge_command(command),
-            None => Verdict::Ends(None),
-        },
+        Ok(Some(command)) => judge_command(command),
+        Ok(None) => Verdict::Ends(None),
         Err(refusal) => Verdict::Halts(refusal),
     }
 }
@@ -38,11 +36,17 @@ fn judge_command(command: Command) -> Verdict
     ensures goes { GoesOn result }
 {
     match command {
-        Command::New(operands) => judge_new(
-            operand(operands, 0),
-            operand(operands, 1),
-            operand(operands, 2),
-        ),
+        Command::New(operands) => {
+            let start = judge_new(
+                operand(operands, 0),
+                operand(operands, 1),
+                operand(operands, 2),
+            );
+            match start {
+                Ok(start) => Verdict::Begins(start),
+                Err(refusal) => Verdict::Refuses(refusal),
+            }
+        }
         Command::Enter(operands) => Verdict::Asks(Call::Enter {
             station: operand(operands, 0),
             mark: operand(operands, 1),
@@ -61,28 +65,23 @@ fn judge_command(command: Command) -> Verdict
 fn operand(operands: &[u8], at: usize) -> u8
     ensures { result ≡ slice_index operands.now at }
 {
-    if at < operands.len() { operands[at] } else { 0 }
+    operands.get(at).copied().unwrap_or(0)
 }
 
 // Is there such a pile, is the number of stations 1 to 16, is the leader one of them?
-fn judge_new(pile: u8, stations: u8, leader: u8) -> Verdict
-    ensures judges { result ≡ new_verdict pile stations leader }
-    ensures goes { GoesOn result }
+fn judge_new(pile: u8, stations: u8, leader: u8) -> Result<Start, Refusal>
+    ensures { verdict_of result ≡ new_verdict pile stations leader }
 {
-    match Pile::named(pile) {
-        Ok(pile) => {
-            if !one_to_sixteen(stations) {
-                return Verdict::Refuses(Refusal::StationCount);
-            }
-            if leader >= stations {
-                return Verdict::Refuses(Refusal::LeaderOutOfRange);
-            }
-            Verdict::Begins(Start {
-                pile,
-                stations,
-                leader,
-            })
-        }
-        Err(refusal) => Verdict::Refuses(refusal),
+    let pile = Pile::try_from(pile)?;
+    if !one_to_sixteen(stations) {
+        return Err(Refusal::StationCount);
     }
+    if leader >= stations {
+        return Err(Refusal::LeaderOutOfRange);
+    }
+    Ok(Start {
+        pile,
+        stations,
+        leader,
+    })
 }

@@ -4,4 +4,5 @@ mod judge;
 mod piles;
 mod responder;
 pub mod run;
+mod serving;
 mod verdict;

@@ -54,6 +54,6 @@ impl Responder for NoTrial {
     ghost state = { λ n. tt };
 
     fn respond(&mut self, call: Call) -> Answer {
-        Answer::Refused(Refusal::NoPile)
+        Err(Refusal::NoPile)
     }
 }

@@ -21,10 +21,3 @@ pub enum Verdict {
     Begins(Start),
     Asks(Call),
 }
-
-// Where the run stands when a trial is over, with the listing bytes written so far.
-#[derive(Clone, Copy)]
-pub enum Served {
-    Ended(usize, Option<Refusal>),
-    Next(usize, Start),
-}
