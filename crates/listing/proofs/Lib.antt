@@ -1,5 +1,4 @@
-pub mod Digits
 pub mod Examples
+pub mod Extends
 pub mod Fits
 pub mod Overs
-pub mod Splits

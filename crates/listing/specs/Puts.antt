@@ -11,6 +11,7 @@ pub record Stands (bs : List ℕ) (at : ℕ) (l : Line) (end : ℕ) (new : List 
   pub room : at + 48 ≤ length bs
   pub ends : end ≡ at + length (text l)
   pub after : new ≡ over bs at (text l)
+  pub size : length new ≡ length bs
   pub within : end ≤ length bs
   pub short : length (text l) ≤ 48
 
@@ -18,3 +19,8 @@ pub record Stands (bs : List ℕ) (at : ℕ) (l : Line) (end : ℕ) (new : List 
 abbrev pub Puts : List ℕ → ℕ → Line → Result ℕ Refusal → List ℕ → Type 0
 Puts bs at l (Ok end) new = Stands bs at l end new
 Puts bs at l (Err e) new = (length bs < at + 48) × (e ≡ ListingFull) × (new ≡ bs)
+
+-- the same of a listing that keeps where it ends: a line that is refused moves no end
+abbrev pub Appends : List ℕ → ℕ → Line → Result Unit Refusal → ℕ → List ℕ → Type 0
+Appends bs at l (Ok u) end new = Puts bs at l (Ok end) new
+Appends bs at l (Err e) end new = Puts bs at l (Err e) new × (end ≡ at)

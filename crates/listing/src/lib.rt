@@ -1,13 +1,13 @@
 #![tactic(auto)]
 
-ghost use Rattle.std.specs.Prelude.{◌≡◌, ℕ, ◌+◌, ◌≤◌, length, decimal};
+ghost use Rattle.std.specs.Prelude.{◌≡◌, ℕ, ◌+◌, ◌-◌, ◌≤◌, length, nat_le};
 ghost use Rattle.deciding.specs.Laws.{mark as outcome_mark};
-ghost use Rattle.listing.specs.Lines.{access_word, outcome_word};
-ghost use Rattle.listing.specs.Over.{over};
-ghost use Rattle.listing.specs.Puts.{Puts, Stands};
+ghost use Rattle.listing.specs.Over.{Extends};
+ghost use Rattle.listing.specs.Puts.{Appends, Stands};
 ghost use Rattle.listing.specs.Words.{line_of, spelled};
 
-use deciding::record::{Access, Operation, Outcome};
+use deciding::record::{Operation, Outcome};
+use itoa::Buffer;
 use line::Line;
 use refusal::Refusal;
 use word::Word;
@@ -18,119 +18,163 @@ mod word;
 // How many bytes have to be free for a line to be put. No line is longer.
 pub const ROOM: usize = 48;
 
-// Puts a line into a listing from a position on, and answers where it ends.
-// Every line asks for the same room, so that when a listing is full does not hang on what there is to tell.
-// Where the position lies past the end, nothing is free.
-pub fn put(listing: &mut [u8], at: usize, line: Line) -> Result<usize, Refusal>
-    ensures { Puts listing.old at line result listing.new }
-{
-    if listing.len().saturating_sub(at) < ROOM {
-        return Err(Refusal::ListingFull);
-    }
-    Ok(put_line(listing, at, line))
+// A listing as it is written: the caller's bytes, and where the next line goes.
+#[derive(Drop)]
+pub struct Listing<'a> {
+    bytes: &'a mut [u8],
+    end: usize,
 }
 
-fn put_line(listing: &mut [u8], at: usize, line: Line) -> usize
-    requires { at + 48 ≤ length listing.old }
-    ensures { Stands listing.old at line result listing.new }
-{
-    match line {
-        Line::Pile {
-            pile,
-            stations,
-            limit,
-            registers,
-        } => put_words(
-            listing,
-            at,
-            &[
-                Word::Pile,
-                Word::Number(pile.number() as u16),
-                Word::Stations,
-                Word::Number(stations as u16),
-                Word::Limit,
-                Word::Number(limit),
-                Word::Registers,
-                Word::Number(registers),
-            ],
-        ),
-        Line::Entered { station, mark } => put_words(
-            listing,
-            at,
-            &[
-                Word::Enter,
-                Word::Number(station as u16),
-                Word::Mark,
-                Word::Number(mark as u16),
-            ],
-        ),
-        Line::Stepped {
-            station,
-            operation,
-            outcome,
-        } => put_step(listing, at, station, operation, outcome),
-        Line::Stopped { station } => {
-            put_words(listing, at, &[Word::Stop, Word::Number(station as u16)])
+impl<'a> Listing<'a> {
+    // A listing over the bytes as they are, whose next line goes where `end` says. Past the last byte nothing is free.
+    pub fn new(bytes: &'a mut [u8], end: usize) -> Listing<'a>
+        ensures { (result.bytes ≡ bytes.entry) × (result.end ≡ end) }
+    {
+        Listing { bytes, end }
+    }
+
+    // Where the lines put so far end, and the next begins.
+    pub fn end(&self) -> usize
+        ensures { result ≡ self.now.end }
+    {
+        self.end
+    }
+
+    // Are so many bytes free that any line can be put?
+    pub fn has_room(&self) -> bool
+        ensures { result ≡ nat_le 48 (length self.now.bytes.now - self.now.end) }
+    {
+        self.bytes.len().saturating_sub(self.end) >= ROOM
+    }
+
+    // Puts a line.
+    // Every line asks for the same room, so that when a listing is full does not hang on what there is to tell.
+    pub fn put(&mut self, line: Line) -> Result<(), Refusal>
+        ensures appends { Appends self.old.bytes.now self.old.end line result self.new.end self.new.bytes.now }
+        ensures same { self.new.bytes.ghost_name ≡ self.old.bytes.ghost_name }
+    {
+        if !self.has_room() {
+            return Err(Refusal::ListingFull);
         }
-        Line::Refused(refusal) => put_words(
-            listing,
-            at,
-            &[Word::Refused, Word::Number(refusal.number() as u16)],
-        ),
+        self.put_line(line);
+        Ok(())
     }
-}
 
-fn put_step(
-    listing: &mut [u8],
-    at: usize,
-    station: u8,
-    operation: Operation,
-    outcome: Option<Outcome>,
-) -> usize
-    requires { at + 48 ≤ length listing.old }
-    ensures { Stands listing.old at (Line.Stepped station operation outcome) result listing.new }
-{
-    let station = Word::Number(station as u16);
-    let access = access_word(operation.access);
-    let register = Word::Number(operation.register);
-    let content = Word::Number(operation.content);
-    match outcome {
-        None => put_words(
-            listing,
-            at,
-            &[Word::Step, station, access, register, content],
-        ),
-        Some(outcome) => put_words(
-            listing,
-            at,
-            &[
+    // Lines are spelled by hand: what `Display::fmt` promises, it promises only where it answers `Ok`, and no clause says
+    // that it does, but a line for which there is room has to be put.
+    #[tactic(auto, using(crate::proofs::Fits::short), unfolding(crate::specs::Lines::text))]
+    fn put_line(&mut self, line: Line)
+        requires { self.old.end + 48 ≤ length self.old.bytes.now }
+        ensures stands { Stands self.old.bytes.now self.old.end line self.new.end self.new.bytes.now }
+        ensures same { self.new.bytes.ghost_name ≡ self.old.bytes.ghost_name }
+    {
+        match line {
+            Line::Pile {
+                pile,
+                stations,
+                limit,
+                registers,
+            } => self.put_words(&[
+                Word::Pile,
+                Word::from(u8::from(pile)),
+                Word::Stations,
+                Word::from(stations),
+                Word::Limit,
+                Word::from(limit),
+                Word::Registers,
+                Word::from(registers),
+            ]),
+            Line::Entered { station, mark } => self.put_words(&[
+                Word::Enter,
+                Word::from(station),
+                Word::Mark,
+                Word::from(mark),
+            ]),
+            Line::Stepped {
+                station,
+                operation,
+                outcome,
+            } => self.put_step(station, operation, outcome),
+            Line::Stopped { station } => self.put_words(&[Word::Stop, Word::from(station)]),
+            Line::Refused(refusal) => {
+                self.put_words(&[Word::Refused, Word::from(u8::from(refusal))])
+            }
+        }
+    }
+
+    #[tactic(auto, using(crate::proofs::Fits::short), unfolding(crate::specs::Lines::text))]
+    fn put_step(&mut self, station: u8, operation: Operation, outcome: Option<Outcome>)
+        requires { self.old.end + 48 ≤ length self.old.bytes.now }
+        ensures stands { Stands self.old.bytes.now self.old.end (Line.Stepped station operation outcome)
+            self.new.end self.new.bytes.now }
+        ensures same { self.new.bytes.ghost_name ≡ self.old.bytes.ghost_name }
+    {
+        let station = Word::from(station);
+        let access = Word::from(operation.access);
+        let register = Word::from(operation.register);
+        let content = Word::from(operation.content);
+        match outcome {
+            None => self.put_words(&[Word::Step, station, access, register, content]),
+            Some(outcome) => self.put_words(&[
                 Word::Step,
                 station,
                 access,
                 register,
                 content,
-                outcome_word(outcome),
-                Word::Number(mark_of(outcome) as u16),
-            ],
-        ),
+                Word::from(outcome),
+                Word::from(mark_of(outcome)),
+            ]),
+        }
     }
-}
 
-fn access_word(access: Access) -> Word
-    ensures { result ≡ access_word access }
-{
-    match access {
-        Access::Read => Word::Read,
-        Access::Write => Word::Write,
+    // Single spaces between the words, and 0Ah after the last.
+    fn put_words(&mut self, words: &[Word])
+        requires { self.old.end + length (line_of words.now) ≤ length self.old.bytes.now }
+        ensures extends { Extends self.old.bytes.now self.old.end (line_of words.now)
+            self.new.end self.new.bytes.now }
+        ensures same { self.new.bytes.ghost_name ≡ self.old.bytes.ghost_name }
+    {
+        let mut words = words;
+        while let Some((word, rest)) = words.split_first() {
+            self.put_word(*word);
+            let after = if rest.is_empty() { b'\n' } else { b' ' };
+            self.put_bytes(&[after]);
+            words = rest;
+        }
     }
-}
 
-fn outcome_word(outcome: Outcome) -> Word
-    ensures { result ≡ outcome_word outcome }
-{
-    match outcome {
-        Outcome::Adopt(_) => Word::Adopt,
-        Outcome::Commit(_) => Word::Commit,
+    fn put_word(&mut self, word: Word)
+        requires { self.old.end + length (spelled word) ≤ length self.old.bytes.now }
+        ensures extends { Extends self.old.bytes.now self.old.end (spelled word)
+            self.new.end self.new.bytes.now }
+        ensures same { self.new.bytes.ghost_name ≡ self.old.bytes.ghost_name }
+    {
+        match word {
+            Word::Pile => self.put_bytes(b"pile"),
+            Word::Stations => self.put_bytes(b"stations"),
+            Word::Limit => self.put_bytes(b"limit"),
+            Word::Registers => self.put_bytes(b"registers"),
+            Word::Enter => self.put_bytes(b"enter"),
+            Word::Mark => self.put_bytes(b"mark"),
+            Word::Step => self.put_bytes(b"step"),
+            Word::Read => self.put_bytes(b"read"),
+            Word::Write => self.put_bytes(b"write"),
+            Word::Adopt => self.put_bytes(b"adopt"),
+            Word::Commit => self.put_bytes(b"commit"),
+            Word::Stop => self.put_bytes(b"stop"),
+            Word::Refused => self.put_bytes(b"refused"),
+            Word::Number(number) => self.put_bytes(Buffer::new().format(number).as_bytes()),
+        }
+    }
+
+    fn put_bytes(&mut self, bytes: &[u8])
+        requires { self.old.end + length bytes.now ≤ length self.old.bytes.now }
+        ensures extends { Extends self.old.bytes.now self.old.end bytes.now self.new.end self.new.bytes.now }
+        ensures same { self.new.bytes.ghost_name ≡ self.old.bytes.ghost_name }
+    {
+        let end = self.end + bytes.len();
+        self.bytes[self.end..end].copy_from_slice(bytes);
+        self.end = end;
     }
 }
 
@@ -141,68 +185,4 @@ fn mark_of(outcome: Outcome) -> u8
         Outcome::Adopt(mark) => mark,
         Outcome::Commit(mark) => mark,
     }
-}
-
-// Single spaces between the words, and 0Ah after the last.
-fn put_words(listing: &mut [u8], at: usize, words: &[Word]) -> usize
-    requires { at + length (line_of words.now) ≤ length listing.old }
-    ensures end { result ≡ at + length (line_of words.now) }
-    ensures after { listing.new ≡ over listing.old at (line_of words.now) }
-{
-    let mut end = at;
-    for i in 0..words.len() {
-        end = put_word(listing, end, words[i]);
-        listing[end] = if i + 1 < words.len() { b' ' } else { b'\n' };
-        end += 1;
-    }
-    end
-}
-
-fn put_word(listing: &mut [u8], at: usize, word: Word) -> usize
-    requires { at + length (spelled word) ≤ length listing.old }
-    ensures end { result ≡ at + length (spelled word) }
-    ensures after { listing.new ≡ over listing.old at (spelled word) }
-{
-    match word {
-        Word::Pile => put_bytes(listing, at, b"pile"),
-        Word::Stations => put_bytes(listing, at, b"stations"),
-        Word::Limit => put_bytes(listing, at, b"limit"),
-        Word::Registers => put_bytes(listing, at, b"registers"),
-        Word::Enter => put_bytes(listing, at, b"enter"),
-        Word::Mark => put_bytes(listing, at, b"mark"),
-        Word::Step => put_bytes(listing, at, b"step"),
-        Word::Read => put_bytes(listing, at, b"read"),
-        Word::Write => put_bytes(listing, at, b"write"),
-        Word::Adopt => put_bytes(listing, at, b"adopt"),
-        Word::Commit => put_bytes(listing, at, b"commit"),
-        Word::Stop => put_bytes(listing, at, b"stop"),
-        Word::Refused => put_bytes(listing, at, b"refused"),
-        Word::Number(n) => put_number(listing, at, n),
-    }
-}
-
-fn put_bytes(listing: &mut [u8], at: usize, bytes: &[u8]) -> usize
-    requires { at + length bytes.now ≤ length listing.old }
-    ensures end { result ≡ at + length bytes.now }
-    ensures after { listing.new ≡ over listing.old at bytes.now }
-{
-    let end = at + bytes.len();
-    listing[at..end].copy_from_slice(bytes);
-    end
-}
-
-// A number in decimal: the digits before the last, if there are any, and then the last.
-fn put_number(listing: &mut [u8], at: usize, n: u16) -> usize
-    requires { at + length (decimal n) ≤ length listing.old }
-    ensures end { result ≡ at + length (decimal n) }
-    ensures after { listing.new ≡ over listing.old at (decimal n) }
-{
-    let one_digit = n < 10;
-    if one_digit {
-        listing[at] = b'0' + n as u8;
-        return at + 1;
-    }
-    let end = put_number(listing, at, n / 10);
-    listing[end] = b'0' + (n % 10) as u8;
-    end + 1
 }

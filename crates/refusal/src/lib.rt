@@ -28,11 +28,11 @@ pub enum Refusal {
     AlreadyAnswered = 19,
 }
 
-impl Refusal {
-    // The number of the question, which stands in the listing.
-    pub fn number(self) -> u8
-        ensures { result ≡ number_of self }
-    {
-        self as u8
+// The number of the question, which stands in the listing.
+impl From<Refusal> for u8 {
+    ghost from_gives = { λ refusal number. number ≡ number_of refusal };
+
+    fn from(refusal: Refusal) -> u8 {
+        refusal as u8
     }
 }

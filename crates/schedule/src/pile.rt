@@ -16,18 +16,21 @@ pub enum Pile {
     QuorumLeaderCoinCollect = 6,
 }
 
-impl Pile {
-    pub fn number(self) -> u8
-        ensures { result ≡ number_of_pile self }
-    {
-        self as u8
-    }
+impl From<Pile> for u8 {
+    ghost from_gives = { λ pile number. number ≡ number_of_pile pile };
 
-    // The pile of a number.
-    pub fn named(number: u8) -> Result<Pile, Refusal>
-        ensures is { result ≡ pile_numbered number }
-        ensures names { Names number result }
-    {
+    fn from(pile: Pile) -> u8 {
+        pile as u8
+    }
+}
+
+// The pile of a number.
+impl TryFrom<u8> for Pile {
+    type Error = Refusal;
+
+    ghost try_from_gives = { λ number pile. (pile ≡ pile_numbered number) × Names number pile };
+
+    fn try_from(number: u8) -> Result<Pile, Refusal> {
         match number {
             1 => Ok(Pile::Collect),
             2 => Ok(Pile::Quorum),

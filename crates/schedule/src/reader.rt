@@ -39,10 +39,10 @@ impl<'a> Reader<'a> {
         ensures shows { Shows self.old.schedule.now self.old.position result self.new.position }
         ensures same { self.new.schedule ≡ self.old.schedule }
     {
-        if self.is_done() {
+        let Some(letter) = self.schedule.get(self.position) else {
             return Ok(None);
-        }
-        let command = match self.schedule[self.position] {
+        };
+        let command = match letter {
             b'N' => Command::New(self.operands(3)?),
             b'E' => Command::Enter(self.operands(2)?),
             b'S' => Command::Step(self.operands(2)?),
@@ -58,12 +58,11 @@ impl<'a> Reader<'a> {
         ensures takes { Takes self.old.schedule.now self.old.position count result self.new.position }
         ensures same { self.new.schedule ≡ self.old.schedule }
     {
-        let Reader { schedule, position } = self;
-        let first = *position + 1;
-        if schedule.len() - first < count {
-            return Err(Refusal::OperandsMissing);
-        }
-        *position = first + count;
-        Ok(&schedule[first..first + count])
+        let first = self.position + 1;
+        let operands = self.schedule[first..]
+            .get(..count)
+            .ok_or(Refusal::OperandsMissing)?;
+        self.position = first + count;
+        Ok(operands)
     }
 }
