@@ -48,11 +48,11 @@ impl<Q: QuorumTable> Protocol for Quorum<Q> {
     }
 
     fn limit(&self) -> u16 {
-        Q::write_size() + Q::read_size() + 2
+        Q::WRITES + Q::READS + 2
     }
 
     fn registers(&self) -> u16 {
-        Q::pool_size() + 1
+        Q::POOL + 1
     }
 
     fn ratifying(&self) -> bool {
@@ -70,8 +70,8 @@ impl<Q: QuorumTable> Protocol for Quorum<Q> {
     fn plan(&self, _station: u8, proposal: u8, phase: &QuorumPhase) -> Plan {
         match *phase {
             QuorumPhase::WriteSet { index } => Plan::Write(Q::write_register(proposal, index), 1),
-            QuorumPhase::ReadPreference => Plan::Read(Q::pool_size()),
-            QuorumPhase::WritePreference => Plan::Write(Q::pool_size(), u16::from(proposal) + 1),
+            QuorumPhase::ReadPreference => Plan::Read(Q::POOL),
+            QuorumPhase::WritePreference => Plan::Write(Q::POOL, u16::from(proposal) + 1),
             QuorumPhase::ReadSet { preference, index } => {
                 Plan::Read(Q::read_register(preference, index))
             }
@@ -89,7 +89,7 @@ impl<Q: QuorumTable> Protocol for Quorum<Q> {
         match *phase {
             QuorumPhase::WriteSet { index } => {
                 let index = index.saturating_add(1);
-                *phase = if index < Q::write_size() {
+                *phase = if index < Q::WRITES {
                     QuorumPhase::WriteSet { index }
                 } else {
                     QuorumPhase::ReadPreference
@@ -116,7 +116,7 @@ impl<Q: QuorumTable> Protocol for Quorum<Q> {
                     return Some(Outcome::Adopt(preference));
                 }
                 let index = index.saturating_add(1);
-                if index >= Q::read_size() {
+                if index >= Q::READS {
                     return Some(Outcome::Commit(preference));
                 }
                 *phase = QuorumPhase::ReadSet { preference, index };

@@ -1,4 +1,4 @@
-ghost use Rattle.std.specs.Prelude.{◌≡◌, ◌<◌};
+ghost use Rattle.std.specs.Prelude.{◌≡◌, refl, ◌<◌};
 ghost use Rattle.tables.specs.Bits.{bit as bit_of};
 ghost use Rattle.tables.specs.BitPairs.{bit_pairs};
 ghost use Rattle.tables.specs.BitPairsLawful.{bit_pairs_lawful};
@@ -24,21 +24,15 @@ impl QuorumTable for BitPairs {
 
     const READS: u16 = 8;
 
+    ghost POOL = { bit_pairs.pool_size };
+
+    ghost WRITES = { bit_pairs.write_size };
+
+    ghost READS = { bit_pairs.read_size };
+
     ghost table = { bit_pairs };
 
     ghost lawful = { bit_pairs_lawful };
-
-    fn pool_size() -> u16 {
-        Self::POOL
-    }
-
-    fn write_size() -> u16 {
-        Self::WRITES
-    }
-
-    fn read_size() -> u16 {
-        Self::READS
-    }
 
     fn write_register(mark: u8, index: u16) -> u16 {
         if index < Self::WRITES {
@@ -55,4 +49,6 @@ impl QuorumTable for BitPairs {
             0
         }
     }
+
+    ghost sizes = { (refl, refl, refl) };
 }

@@ -1,4 +1,4 @@
-ghost use Rattle.std.specs.Prelude.{◌≡◌, slice_index};
+ghost use Rattle.std.specs.Prelude.{◌≡◌, refl, slice_index};
 ghost use Rattle.tables.specs.HalfSets.{entry as entry_of, half_sets, places};
 ghost use Rattle.tables.specs.HalfSetsLawful.{half_sets_lawful};
 
@@ -55,21 +55,15 @@ impl QuorumTable for HalfSets {
 
     const READS: u16 = 6;
 
+    ghost POOL = { half_sets.pool_size };
+
+    ghost WRITES = { half_sets.write_size };
+
+    ghost READS = { half_sets.read_size };
+
     ghost table = { half_sets };
 
     ghost lawful = { half_sets_lawful };
-
-    fn pool_size() -> u16 {
-        Self::POOL
-    }
-
-    fn write_size() -> u16 {
-        Self::WRITES
-    }
-
-    fn read_size() -> u16 {
-        Self::READS
-    }
 
     fn write_register(mark: u8, index: u16) -> u16 {
         register_at(entry(mark), 1, index)
@@ -78,4 +72,6 @@ impl QuorumTable for HalfSets {
     fn read_register(mark: u8, index: u16) -> u16 {
         register_at(entry(mark), 0, index)
     }
+
+    ghost sizes = { (refl, refl, refl) };
 }
