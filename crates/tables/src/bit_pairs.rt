@@ -1,5 +1,5 @@
 ghost use Rattle.std.specs.Prelude.{◌≡◌, refl, ◌<◌};
-ghost use Rattle.tables.specs.Bits.{bit as bit_of};
+ghost use Rattle.std.specs.Int.{bit_at};
 ghost use Rattle.tables.specs.BitPairs.{bit_pairs};
 ghost use Rattle.tables.specs.BitPairsLawful.{bit_pairs_lawful};
 
@@ -12,11 +12,12 @@ pub struct BitPairs;
 // A bit of the mark, bit 0 lowest.
 fn bit(mark: u8, index: u16) -> u16
     requires { index < 8 }
-    ensures { result ≡ bit_of mark index }
+    ensures { result ≡ bit_at mark index }
 {
     u16::from((mark >> index) & 1)
 }
 
+#[tactic(auto, using(crate::specs::BitPairsLawful::listed_at, crate::specs::BitPairsLawful::listed_past))]
 impl QuorumTable for BitPairs {
     const POOL: u16 = 16;
 

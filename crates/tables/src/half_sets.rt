@@ -36,16 +36,10 @@ fn entry(mark: u8) -> u16
 fn register_at(number: u16, bit: u16, index: u16) -> u16
     ensures { result ≡ slice_index (places number bit 11) index }
 {
-    let mut left = index;
-    for register in 0..HalfSets::POOL {
-        if (number >> register) & 1 == bit {
-            if left == 0 {
-                return register;
-            }
-            left -= 1;
-        }
-    }
-    0
+    (0..HalfSets::POOL)
+        .filter(|register| (number >> register) & 1 == bit)
+        .nth(usize::from(index))
+        .unwrap_or(0)
 }
 
 impl QuorumTable for HalfSets {
