@@ -23,6 +23,17 @@ pub struct Quorum<Q> {
     pub table: PhantomData<Q>,
 }
 
+impl<Q> Quorum<Q> {
+    pub fn new(stations: u8) -> Self
+        ensures { result.stations ≡ stations }
+    {
+        Quorum {
+            stations,
+            table: PhantomData,
+        }
+    }
+}
+
 // Where a station is. An index is how many registers of the set it has written or read.
 #[derive(Clone, Copy)]
 pub enum QuorumPhase {
@@ -86,42 +97,35 @@ impl<Q: QuorumTable> Protocol for Quorum<Q> {
         content: u16,
         _coin: u8,
     ) -> Option<Outcome> {
-        match *phase {
+        *phase = match *phase {
             QuorumPhase::WriteSet { index } => {
                 let index = index.saturating_add(1);
-                *phase = if index < Q::WRITES {
+                if index < Q::WRITES {
                     QuorumPhase::WriteSet { index }
                 } else {
                     QuorumPhase::ReadPreference
-                };
+                }
             }
-            QuorumPhase::ReadPreference => {
-                *phase = if content == 0 {
-                    QuorumPhase::WritePreference
-                } else {
-                    QuorumPhase::ReadSet {
-                        preference: mark_of(content),
-                        index: 0,
-                    }
-                };
-            }
-            QuorumPhase::WritePreference => {
-                *phase = QuorumPhase::ReadSet {
-                    preference: proposal,
-                    index: 0,
-                };
+            QuorumPhase::ReadPreference if content == 0 => QuorumPhase::WritePreference,
+            QuorumPhase::ReadPreference => QuorumPhase::ReadSet {
+                preference: mark_of(content),
+                index: 0,
+            },
+            QuorumPhase::WritePreference => QuorumPhase::ReadSet {
+                preference: proposal,
+                index: 0,
+            },
+            QuorumPhase::ReadSet { preference, .. } if content != 0 => {
+                return Some(Outcome::Adopt(preference));
             }
             QuorumPhase::ReadSet { preference, index } => {
-                if content != 0 {
-                    return Some(Outcome::Adopt(preference));
-                }
                 let index = index.saturating_add(1);
                 if index >= Q::READS {
                     return Some(Outcome::Commit(preference));
                 }
-                *phase = QuorumPhase::ReadSet { preference, index };
+                QuorumPhase::ReadSet { preference, index }
             }
-        }
+        };
         None
     }
 }
@@ -131,13 +135,8 @@ pub fn examples() -> [u16; 2]
     ensures limits { result ≡ limits }
     ensures examples { Examples }
 {
-    let over_bit_pairs = Quorum {
-        stations: 2,
-        table: PhantomData::<BitPairs>,
-    };
-    let over_half_sets = Quorum {
-        stations: 2,
-        table: PhantomData::<HalfSets>,
-    };
-    [over_bit_pairs.limit(), over_half_sets.limit()]
+    [
+        Quorum::<BitPairs>::new(2).limit(),
+        Quorum::<HalfSets>::new(2).limit(),
+    ]
 }
