@@ -1,10 +1,11 @@
 -- Half sets are a quorum table: distinct sets of one size, of numbers that have exactly five ones, none left out.
-use Rattle.std.specs.Prelude.{◌≡◌, ℕ, zero, suc, ◌+◌, ◌-◌, ◌/◌, ◌%◌, ◌^◌, ◌<◌, ◌≤◌, Bool, true, false, cond, not, ◌≢◌, List, ◌∷◌, length, ◌==◌, refl}
-use Rattle.std.proofs.Common.{ap, subst, sym, ◌∙◌, inl, inr, arith, lit≤, shr-shr}
+use Rattle.std.specs.Prelude.{◌≡◌, ℕ, zero, suc, ◌+◌, ◌-◌, ◌/◌, ◌%◌, ◌^◌, ◌<◌, ◌≤◌, Bool, true, false, cond, not, ◌≢◌, List, ◌∷◌, length, refl}
+use Rattle.std.proofs.Common.{ap, subst, sym, ◌∙◌, arith, lit≤, shr-shr}
 use Rattle.std.specs.Int.Count.{ones, ones_in, ones_step}
-use Rattle.std.proofs.lemmas.Bool.{cases_Bool, cases_order, eqb-true, eqb-false, eq-eqb, not_from_false}
+use Rattle.std.proofs.lemmas.Bool.{eqb-true, eqb-false, eq-eqb, not_from_false}
 use Rattle.std.specs.Int.{bit_at}
 use Rattle.std.specs.List.{range_with_len}
+use Rattle.std.proofs.lemmas.Bool.Decides.{nat_tests}
 use Rattle.std.proofs.lemmas.List.Filters.{length-filter_both}
 use Rattle.std.proofs.lemmas.List.FromFn.{length-range_with_len}
 use Rattle.tables.specs.Table.{marks, Member, RegisterSet, Lawful}
@@ -24,20 +25,12 @@ places_ones x i (suc n) =
     more true e rest l = omega (arith, eqb-true (bit_at x i) 1 e)
     more false e rest l = let other = eqb-false (bit_at x i) 1 e in omega arith
 
--- a bit_at is 0 just where it is not 1
-opposite : (b : ℕ) → b < 2 → (b == 0) ≡ not (b == 1)
-opposite zero l = refl
-opposite (suc zero) l = refl
-opposite (suc (suc b)) l = absurd (omega arith)
-
+-- a bit is 0 just where it is not 1
 bit_opposite : (x i : ℕ) → bit_is x 0 i ≡ not (bit_is x 1 i)
-bit_opposite x i = opposite (bit_at x i) (omega arith)
+bit_opposite x i = grind (arith, nat_tests)
 
 ones_differ : (x y m : ℕ) → bit_at x m ≢ bit_at y m → bit_is x 1 m ≢ bit_is y 1 m
-ones_differ x y m ne same = elim (cases_Bool (bit_is x 1 m)) [
-  | inl e ↦ ne (eqb-true (bit_at x m) 1 e ∙ sym (eqb-true (bit_at y m) 1 (sym same ∙ e)))
-  | inr e ↦ let x_not = eqb-false (bit_at x m) 1 e in let y_not = eqb-false (bit_at y m) 1 (sym same ∙ e) in ne (omega arith)
-]
+ones_differ x y m ne same = grind (arith, nat_tests)
 
 module _ (n x b : ℕ) where
   set_of_places : (size : ℕ) → length (places x b n) ≡ size → RegisterSet n size (places x b n)
@@ -100,11 +93,7 @@ module _ (v : ℕ) (small : v < marks) where
   entry_above u less = picked_ascends five 0 1054 u v less (omega (arith, counted))
 
 entries_differ : (v u : ℕ) → v < marks → u < marks → entry v ≡ entry u → v ≡ u
-entries_differ v u hv hu e = elim (cases_order v u) [
-  | inl same ↦ same
-  | inr (inl less) ↦ absurd (omega (arith, entry_above u hu v less))
-  | inr (inr less) ↦ absurd (omega (arith, entry_above v hv u less))
-]
+entries_differ v u hv hu e = grind (arith, entry_above u hu v, entry_above v hv u)
 
 -- all the ones of a number of k bits are among the lowest k
 ones_in-ones : (k n : ℕ) → n < 2 ^ k → ones_in k n ≡ ones n
