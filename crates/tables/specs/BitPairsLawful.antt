@@ -1,7 +1,6 @@
 -- Bit pairs are a quorum table, whatever the number of pairs, if every mark has its bits within them.
 use Rattle.std.specs.Prelude.{◌≡◌, ℕ, ◌+◌, ◌*◌, ◌^◌, ◌<◌, ◌≤◌, ◌≢◌, length, slice_index}
-use Rattle.std.proofs.Common.{ap, sym, ◌∙◌, lt_of_lt_of_le, arith, lit≤}
-use Rattle.std.specs.Int.{bit_at}
+use Rattle.std.proofs.Common.{sym, ◌∙◌, lt_of_lt_of_le, arith, lit≤}
 use Rattle.std.proofs.lemmas.List.{get_or_past}
 use Rattle.std.proofs.lemmas.List.FromFn.{length-map-range_with_len, get_or-map-range_with_len}
 use Rattle.tables.specs.Table.{marks, Member, RegisterSet, Lawful}
@@ -43,7 +42,7 @@ unwritten_of_pair v i = (omega arith, omega arith)
 
 module _ (n : ℕ) (enough : marks ≤ 2 ^ n) where
   apart : (v i j : ℕ) → written v i ≢ unwritten v j
-  apart v i j e = let same : i ≡ j = omega arith in let bits : bit_at v i ≡ bit_at v j = ap (bit_at v) same in omega arith
+  apart v i j e = grind arith
 
   meet : (v u : ℕ) → v < marks → u < marks → u ≢ v → (r : ℕ) × Member r ((pairs n).write_set v) × Member r ((pairs n).read_set u)
   meet v u hv hu ne =

@@ -1,8 +1,8 @@
 -- Half sets are a quorum table: distinct sets of one size, of numbers that have exactly five ones, none left out.
-use Rattle.std.specs.Prelude.{◌≡◌, ℕ, zero, suc, ◌+◌, ◌-◌, ◌/◌, ◌%◌, ◌^◌, ◌<◌, ◌≤◌, Bool, true, false, cond, not, ◌≢◌, List, ◌∷◌, length, refl}
-use Rattle.std.proofs.Common.{ap, subst, sym, ◌∙◌, arith, lit≤, shr-shr}
+use Rattle.std.specs.Prelude.{◌≡◌, ℕ, zero, suc, ◌+◌, ◌-◌, ◌/◌, ◌%◌, ◌^◌, ◌<◌, ◌≤◌, true, not, ◌≢◌, length, refl}
+use Rattle.std.proofs.Common.{ap, sym, ◌∙◌, arith, lit≤, shr-shr}
 use Rattle.std.specs.Int.Count.{ones, ones_in, ones_step}
-use Rattle.std.proofs.lemmas.Bool.{eqb-true, eqb-false, eq-eqb, not_from_false}
+use Rattle.std.proofs.lemmas.Bool.{eqb-true, eq-eqb, not_from_false}
 use Rattle.std.specs.Int.{bit_at}
 use Rattle.std.specs.List.{range_with_len}
 use Rattle.std.proofs.lemmas.Bool.Decides.{nat_tests}
@@ -17,13 +17,7 @@ use Rattle.tables.specs.HalfSets.{bit_is, places, sets, five, entry, half_sets, 
 places_ones : (x i n : ℕ) → length (picked (bit_is x 1) i n) ≡ ones_in n (x / 2 ^ i)
 unfolding picked ones_in
 places_ones x i zero = refl
-places_ones x i (suc n) =
-    more (bit_is x 1 i) refl (picked (bit_is x 1) (i + 1) n) (places_ones x (i + 1) n ∙ ap (ones_in n) (sym (shr-shr x i 1)))
-  where
-    more : (b : Bool) → bit_is x 1 i ≡ b → (rest : List ℕ) → length rest ≡ ones_in n (x / 2 ^ i / 2) →
-        length (cond b (i ∷ rest) rest) ≡ bit_at x i + ones_in n (x / 2 ^ i / 2)
-    more true e rest l = omega (arith, eqb-true (bit_at x i) 1 e)
-    more false e rest l = let other = eqb-false (bit_at x i) 1 e in omega arith
+places_ones x i (suc n) = let rest = places_ones x (i + 1) n ∙ ap (ones_in n) (sym (shr-shr x i 1)) in grind (arith, nat_tests)
 
 -- a bit is 0 just where it is not 1
 bit_opposite : (x i : ℕ) → bit_is x 0 i ≡ not (bit_is x 1 i)
@@ -41,7 +35,7 @@ module _ (n x b : ℕ) where
   }
 
   member_bit : (r : ℕ) → Member r (places x b n) → bit_at x r ≡ b
-  member_bit r m = eqb-true (bit_at x r) b (subst (λ (y : ℕ). bit_is x b y ≡ true) m.is (picked_passes (bit_is x b) 0 n m.index m.below).1)
+  member_bit r m = grind (arith, nat_tests, m.is, picked_passes (bit_is x b) 0 n m.index m.below)
 
 -- distinct numbers of n bits, each with so many ones, make a quorum table
 module _ (n size : ℕ) (number : ℕ → ℕ)
@@ -98,7 +92,7 @@ entries_differ v u hv hu e = grind (arith, entry_above u hu v, entry_above v hv 
 -- all the ones of a number of k bits are among the lowest k
 ones_in-ones : (k n : ℕ) → n < 2 ^ k → ones_in k n ≡ ones n
 unfolding ones_in ones
-ones_in-ones zero n h = let none : n ≡ 0 = omega arith in rw none
+ones_in-ones zero n h = grind arith
 ones_in-ones (suc k) n h = ap (λ x. n % 2 + x) (ones_in-ones k (n / 2) (omega arith)) ∙ sym (ones_step n)
 
 pub five_ones : FiveOnes
