@@ -1,6 +1,7 @@
 -- Every call of the quorum ratifier keeps its invariant: a new machine, an accepted enter, and a step from each phase.
 use Rattle.std.specs.Prelude.{◌≡◌, ℕ, ◌+◌, ◌-◌, ◌<◌, ◌≤◌, cond, ◌≢◌, ◌⊎◌, List, length, set, ◌==◌, nat_lt, slice_index, slice_index_or, slice_set, refl}
 use Rattle.std.proofs.Common.{sym, ap, ◌∙◌, inl, inr, arith}
+use Rattle.std.proofs.lemmas.Grind.{common_steps}
 use Rattle.std.proofs.lemmas.List.{get_or-set_same, get_or-set_other}
 use Rattle.std.proofs.lemmas.Bool.{cases_eq, cond_both, eqb-true, eqb-false, ltb-true, ltb-false}
 use Rattle.deciding.specs.declared.record.Outcome.TheVariants.{Adopt, Commit}
@@ -19,10 +20,7 @@ use Rattle.quorum.specs.Invariant.{Row, Settled, InRange, HasWritten, FoundEmpty
 -- A write of a content that is not 0, to a register that is there, empties no register and fills no other.
 module _ (xs : List ℕ) (r x : ℕ) (there : r < length xs) (some : x ≢ 0) where
   write_fills : (j : ℕ) → slice_index xs j ≢ 0 → slice_index (slice_set xs r x) j ≢ 0
-  write_fills j full = elim (cases_eq j r) [
-    | inl e ↦ rw (e, get_or-set_same xs r x 0 there) some
-    | inr e ↦ rw (get_or-set_other xs r j x 0 e) full
-  ]
+  write_fills j full = grind (arith, common_steps)
 
   write_filled : (j : ℕ) → slice_index (slice_set xs r x) j ≢ 0 → (slice_index xs j ≢ 0) ⊎ (r ≡ j)
   write_filled j full = elim (cases_eq j r) [
@@ -140,10 +138,7 @@ module _ (q : Table) where
           below = (law.writes v old.in_range.0).below i old.in_range.1
 
           announced : Announced q (slice_set xs r 1) v (i + 1)
-          announced j l = elim (cases_eq j i) [
-            | inl e ↦ rw (e, get_or-set_same xs r 1 0 (omega (arith, below))) (omega arith)
-            | inr e ↦ write_fills xs r 1 (omega (arith, below)) (omega arith) _ (old.written v i (refl, refl) j (omega arith))
-          ]
+          announced j l = grind (arith, common_steps, old.written v i (refl, refl) j)
 
           kept_write : (ph : QuorumPhase) → ((w : ℕ) → Settled (Running v (k + 1) ph) w → ⊥) →
               ((C P : ℕ → Type 0) → RowHolds q (slice_set xs r 1) C P (Running v (k + 1) ph)) → Invariant q (slice_set xs r 1) (slice_set t s (Running v (k + 1) ph))

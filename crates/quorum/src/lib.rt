@@ -23,6 +23,17 @@ pub struct Quorum<Q> {
     pub table: PhantomData<Q>,
 }
 
+impl<Q> Quorum<Q> {
+    pub fn new(stations: u8) -> Self
+        ensures { result.stations ≡ stations }
+    {
+        Quorum {
+            stations,
+            table: PhantomData,
+        }
+    }
+}
+
 // Where a station is. An index is how many registers of the set it has written or read.
 #[derive(Clone, Copy)]
 pub enum QuorumPhase {
@@ -48,11 +59,11 @@ impl<Q: QuorumTable> Protocol for Quorum<Q> {
     }
 
     fn limit(&self) -> u16 {
-        Q::write_size() + Q::read_size() + 2
+        Q::WRITES + Q::READS + 2
     }
 
     fn registers(&self) -> u16 {
-        Q::pool_size() + 1
+        Q::POOL + 1
     }
 
     fn ratifying(&self) -> bool {
@@ -70,8 +81,8 @@ impl<Q: QuorumTable> Protocol for Quorum<Q> {
     fn plan(&self, _station: u8, proposal: u8, phase: &QuorumPhase) -> Plan {
         match *phase {
             QuorumPhase::WriteSet { index } => Plan::Write(Q::write_register(proposal, index), 1),
-            QuorumPhase::ReadPreference => Plan::Read(Q::pool_size()),
-            QuorumPhase::WritePreference => Plan::Write(Q::pool_size(), u16::from(proposal) + 1),
+            QuorumPhase::ReadPreference => Plan::Read(Q::POOL),
+            QuorumPhase::WritePreference => Plan::Write(Q::POOL, u16::from(proposal) + 1),
             QuorumPhase::ReadSet { preference, index } => {
                 Plan::Read(Q::read_register(preference, index))
             }
@@ -86,42 +97,35 @@ impl<Q: QuorumTable> Protocol for Quorum<Q> {
         content: u16,
         _coin: u8,
     ) -> Option<Outcome> {
-        match *phase {
+        *phase = match *phase {
             QuorumPhase::WriteSet { index } => {
                 let index = index.saturating_add(1);
-                *phase = if index < Q::write_size() {
+                if index < Q::WRITES {
                     QuorumPhase::WriteSet { index }
                 } else {
                     QuorumPhase::ReadPreference
-                };
+                }
             }
-            QuorumPhase::ReadPreference => {
-                *phase = if content == 0 {
-                    QuorumPhase::WritePreference
-                } else {
-                    QuorumPhase::ReadSet {
-                        preference: mark_of(content),
-                        index: 0,
-                    }
-                };
-            }
-            QuorumPhase::WritePreference => {
-                *phase = QuorumPhase::ReadSet {
-                    preference: proposal,
-                    index: 0,
-                };
+            QuorumPhase::ReadPreference if content == 0 => QuorumPhase::WritePreference,
+            QuorumPhase::ReadPreference => QuorumPhase::ReadSet {
+                preference: mark_of(content),
+                index: 0,
+            },
+            QuorumPhase::WritePreference => QuorumPhase::ReadSet {
+                preference: proposal,
+                index: 0,
+            },
+            QuorumPhase::ReadSet { preference, .. } if content != 0 => {
+                return Some(Outcome::Adopt(preference));
             }
             QuorumPhase::ReadSet { preference, index } => {
-                if content != 0 {
-                    return Some(Outcome::Adopt(preference));
-                }
                 let index = index.saturating_add(1);
-                if index >= Q::read_size() {
+                if index >= Q::READS {
                     return Some(Outcome::Commit(preference));
                 }
-                *phase = QuorumPhase::ReadSet { preference, index };
+                QuorumPhase::ReadSet { preference, index }
             }
-        }
+        };
         None
     }
 }
@@ -131,13 +135,8 @@ pub fn examples() -> [u16; 2]
     ensures limits { result ≡ limits }
     ensures examples { Examples }
 {
-    let over_bit_pairs = Quorum {
-        stations: 2,
-        table: PhantomData::<BitPairs>,
-    };
-    let over_half_sets = Quorum {
-        stations: 2,
-        table: PhantomData::<HalfSets>,
-    };
-    [over_bit_pairs.limit(), over_half_sets.limit()]
+    [
+        Quorum::<BitPairs>::new(2).limit(),
+        Quorum::<HalfSets>::new(2).limit(),
+    ]
 }

@@ -1,13 +1,13 @@
 -- The quorum table of half sets: of a pool of eleven registers a mark writes five, a different five for each mark, and reads the other six.
 use Rattle.std.specs.Prelude.{◌≡◌, ℕ, ◌-◌, ◌<◌, ◌≤◌, Bool, List, ◌==◌, count_ones, slice_index}
 use Rattle.std.specs.Int.Count.{ones_in}
-use Rattle.tables.specs.Bits.{bit}
+use Rattle.std.specs.Int.{bit_at}
 use Rattle.tables.specs.Picked.{picked}
 use Rattle.tables.specs.Table.{marks, Table}
 
 -- is bit i of x as given?
 abbrev pub bit_is : ℕ → ℕ → ℕ → Bool
-bit_is x b i = bit x i == b
+bit_is x b i = bit_at x i == b
 
 -- those of the lowest n places where it is
 abbrev pub places : ℕ → ℕ → ℕ → List ℕ

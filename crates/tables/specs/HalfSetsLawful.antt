@@ -1,40 +1,30 @@
 -- Half sets are a quorum table: distinct sets of one size, of numbers that have exactly five ones, none left out.
-use Rattle.std.specs.Prelude.{◌≡◌, ℕ, zero, suc, ◌+◌, ◌-◌, ◌/◌, ◌%◌, ◌^◌, ◌<◌, ◌≤◌, Bool, true, false, cond, not, ◌≢◌, List, ◌∷◌, length, ◌==◌, refl}
-use Rattle.std.proofs.Common.{ap, subst, sym, ◌∙◌, inl, inr, add-one, arith, lit≤, shr-shr}
+use Rattle.std.specs.Prelude.{◌≡◌, ℕ, zero, suc, ◌+◌, ◌-◌, ◌/◌, ◌%◌, ◌^◌, ◌<◌, ◌≤◌, true, not, ◌≢◌, length, refl}
+use Rattle.std.proofs.Common.{ap, sym, ◌∙◌, arith, lit≤, shr-shr}
 use Rattle.std.specs.Int.Count.{ones, ones_in, ones_step}
-use Rattle.std.proofs.lemmas.Bool.{cases_Bool, cases_order, eqb-true, eqb-false, eq-eqb, not_from_false}
+use Rattle.std.proofs.lemmas.Bool.{eqb-true, eq-eqb, not_from_false}
+use Rattle.std.specs.Int.{bit_at}
+use Rattle.std.specs.List.{range_with_len}
+use Rattle.std.proofs.lemmas.Bool.Decides.{nat_tests}
+use Rattle.std.proofs.lemmas.List.Filters.{length-filter_both}
+use Rattle.std.proofs.lemmas.List.FromFn.{length-range_with_len}
 use Rattle.tables.specs.Table.{marks, Member, RegisterSet, Lawful}
-use Rattle.tables.specs.Bits.{bit, differ}
-use Rattle.tables.specs.Picked.{picked, Within, picked_passes, picked_ascends, picked_member, picked_both, distinct}
+use Rattle.tables.specs.Bits.{differ}
+use Rattle.tables.specs.Picked.{picked, Within, picked_passes, picked_ascends, picked_member, distinct}
 use Rattle.tables.specs.HalfSets.{bit_is, places, sets, five, entry, half_sets, FiveOnes}
 
 -- as many places have a 1 as there are ones among n bits from i on
 places_ones : (x i n : ℕ) → length (picked (bit_is x 1) i n) ≡ ones_in n (x / 2 ^ i)
 unfolding picked ones_in
 places_ones x i zero = refl
-places_ones x i (suc n) =
-    let half : x / 2 ^ suc i ≡ x / 2 ^ i / 2 = rw (← add-one i) (sym (shr-shr x i 1)) in
-    more (bit_is x 1 i) refl (picked (bit_is x 1) (suc i) n) (places_ones x (suc i) n ∙ ap (ones_in n) half)
-  where
-    more : (b : Bool) → bit_is x 1 i ≡ b → (rest : List ℕ) → length rest ≡ ones_in n (x / 2 ^ i / 2) →
-        length (cond b (i ∷ rest) rest) ≡ bit x i + ones_in n (x / 2 ^ i / 2)
-    more true e rest l = omega (arith, eqb-true (bit x i) 1 e)
-    more false e rest l = let other = eqb-false (bit x i) 1 e in omega arith
+places_ones x i (suc n) = let rest = places_ones x (i + 1) n ∙ ap (ones_in n) (sym (shr-shr x i 1)) in grind (arith, nat_tests)
 
 -- a bit is 0 just where it is not 1
-opposite : (b : ℕ) → b < 2 → (b == 0) ≡ not (b == 1)
-opposite zero l = refl
-opposite (suc zero) l = refl
-opposite (suc (suc b)) l = absurd (omega arith)
-
 bit_opposite : (x i : ℕ) → bit_is x 0 i ≡ not (bit_is x 1 i)
-bit_opposite x i = opposite (bit x i) (omega arith)
+bit_opposite x i = grind (arith, nat_tests)
 
-ones_differ : (x y m : ℕ) → bit x m ≢ bit y m → bit_is x 1 m ≢ bit_is y 1 m
-ones_differ x y m ne same = elim (cases_Bool (bit_is x 1 m)) [
-  | inl e ↦ ne (eqb-true (bit x m) 1 e ∙ sym (eqb-true (bit y m) 1 (sym same ∙ e)))
-  | inr e ↦ let x_not = eqb-false (bit x m) 1 e in let y_not = eqb-false (bit y m) 1 (sym same ∙ e) in ne (omega arith)
-]
+ones_differ : (x y m : ℕ) → bit_at x m ≢ bit_at y m → bit_is x 1 m ≢ bit_is y 1 m
+ones_differ x y m ne same = grind (arith, nat_tests)
 
 module _ (n x b : ℕ) where
   set_of_places : (size : ℕ) → length (places x b n) ≡ size → RegisterSet n size (places x b n)
@@ -44,8 +34,8 @@ module _ (n x b : ℕ) where
     ascending = λ i j l m. picked_ascends (bit_is x b) 0 n i j l (omega arith);
   }
 
-  member_bit : (r : ℕ) → Member r (places x b n) → bit x r ≡ b
-  member_bit r m = eqb-true (bit x r) b (subst (λ (y : ℕ). bit_is x b y ≡ true) m.is (picked_passes (bit_is x b) 0 n m.index m.below).1)
+  member_bit : (r : ℕ) → Member r (places x b n) → bit_at x r ≡ b
+  member_bit r m = grind (arith, nat_tests, m.is, picked_passes (bit_is x b) 0 n m.index m.below)
 
 -- distinct numbers of n bits, each with so many ones, make a quorum table
 module _ (n size : ℕ) (number : ℕ → ℕ)
@@ -57,7 +47,8 @@ module _ (n size : ℕ) (number : ℕ → ℕ)
       places_ones (number v) 0 n ∙ ap (ones_in n) whole ∙ sized v h
 
   reads_sized : (v : ℕ) → v < marks → length (places (number v) 0 n) ≡ n - size
-  reads_sized v h = omega (arith, writes_sized v h, picked_both (bit_is (number v) 1) (bit_is (number v) 0) (bit_opposite (number v)) 0 n)
+  unfolding picked
+  reads_sized v h = omega (arith, writes_sized v h, length-filter_both (bit_is (number v) 1) (bit_is (number v) 0) (bit_opposite (number v)) (range_with_len 0 n), length-range_with_len 0 n)
 
   meet : (v u : ℕ) → v < marks → u < marks → u ≢ v → (r : ℕ) × Member r (places (number v) 1 n) × Member r (places (number u) 0 n)
   meet v u hv hu ne =
@@ -96,16 +87,12 @@ module _ (v : ℕ) (small : v < marks) where
   entry_above u less = picked_ascends five 0 1054 u v less (omega (arith, counted))
 
 entries_differ : (v u : ℕ) → v < marks → u < marks → entry v ≡ entry u → v ≡ u
-entries_differ v u hv hu e = elim (cases_order v u) [
-  | inl same ↦ same
-  | inr (inl less) ↦ absurd (omega (arith, entry_above u hu v less))
-  | inr (inr less) ↦ absurd (omega (arith, entry_above v hv u less))
-]
+entries_differ v u hv hu e = grind (arith, entry_above u hu v, entry_above v hv u)
 
 -- all the ones of a number of k bits are among the lowest k
 ones_in-ones : (k n : ℕ) → n < 2 ^ k → ones_in k n ≡ ones n
 unfolding ones_in ones
-ones_in-ones zero n h = let none : n ≡ 0 = omega arith in rw none
+ones_in-ones zero n h = grind arith
 ones_in-ones (suc k) n h = ap (λ x. n % 2 + x) (ones_in-ones k (n / 2) (omega arith)) ∙ sym (ones_step n)
 
 pub five_ones : FiveOnes

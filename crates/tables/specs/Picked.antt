@@ -1,112 +1,87 @@
 -- The numbers that pass a test, as a list: what is in it, and two such lists of one length.
-use Rattle.std.specs.Prelude.{◌≡◌, ℕ, zero, suc, ◌+◌, ◌<◌, ◌≤◌, Bool, true, false, cond, not, ◌≢◌, List, [], ◌∷◌, length, slice_index}
-use Rattle.std.proofs.Math.Path.{refl}
-use Rattle.std.proofs.Common.{ap, sym, ◌∙◌, ⊎_elim}
-use native.Mathlib.Omega.{arith}
-use Rattle.std.proofs.lemmas.Bool.{cases_eq, true≢false}
+use Rattle.std.specs.Prelude.{◌≡◌, ℕ, zero, suc, ◌+◌, ◌-◌, ◌<◌, ◌≤◌, Bool, true, false, cond, not, ◌≢◌, List, [], ◌∷◌, length, slice_index}
+use Rattle.std.specs.List.{filter, range_with_len, All}
+use Rattle.std.proofs.Common.{refl, sym, ◌∙◌, inl, inr, arith}
+use Rattle.std.proofs.lemmas.Bool.{cases_Bool, not-true, not_from_false, false_from_ne_true, true_from_ne_false}
+use Rattle.std.proofs.lemmas.List.Elements.{All-filter, filter_passes}
+use Rattle.std.proofs.lemmas.List.Filters.{length-filter_both, sum_by-filter_both}
+use Rattle.std.proofs.lemmas.List.FromFn.{length-range_with_len, get_or-range_with_len}
+use Rattle.std.proofs.lemmas.List.Kept.{AllPairs-filter}
+use Rattle.std.proofs.lemmas.List.Sums.{length-filter}
 use Rattle.tables.specs.Table.{Member}
 
 -- those of n numbers from i on, lowest first
 unfoldable pub picked : (ℕ → Bool) → ℕ → ℕ → List ℕ
-picked f i zero = []
-picked f i (suc n) = let rest = picked f (suc i) n in cond (f i) (i ∷ rest) rest
+picked f i n = filter f (range_with_len i n)
 
 -- m is one of n numbers from i on
 abbrev pub Within : ℕ → ℕ → ℕ → Type 0
 Within i n m = (i ≤ m) × (m < i + n)
 
--- In each proof below, one step of `picked` goes by what the test says of i.
-module _ (f : ℕ → Bool) where
-  abbrev Passes : ℕ → ℕ → List ℕ → Type 0
-  Passes i n xs = (j : ℕ) → j < length xs → Within i n (slice_index xs j) × (f (slice_index xs j) ≡ true)
+-- each of those numbers is
+numbers_within : (i n : ℕ) → All (Within i n) (range_with_len i n)
+numbers_within i n k d l = omega (arith, length-range_with_len i n, get_or-range_with_len i n k d)
 
-  passes_more : (b : Bool) (i n : ℕ) (rest : List ℕ) → f i ≡ b → Passes (suc i) n rest → Passes i (suc n) (cond b (i ∷ rest) rest)
-  passes_more true i n rest e all zero l = ((omega arith, omega arith), e)
-  passes_more true i n rest e all (suc j) l = let h = all j (omega arith) in (omega arith, h.1)
-  passes_more false i n rest e all j l = let h = all j l in (omega arith, h.1)
+-- a member that passes a test is a member of what is filtered by it
+filter_member : (f : ℕ → Bool) (xs : List ℕ) (k : ℕ) → k < length xs → f (slice_index xs k) ≡ true → Member (slice_index xs k) (filter f xs)
+filter_member f [] k l e = absurd (omega arith)
+filter_member f (x ∷ xs) zero l e = rw e (record { index = 0; below = omega arith; is = refl })
+filter_member f (x ∷ xs) (suc k) l e = after (f x) (filter_member f xs k (omega arith) e)
+  where
+    after : (b : Bool) → Member (slice_index xs k) (filter f xs) → Member (slice_index xs k) (cond b (x ∷ filter f xs) (filter f xs))
+    after true m = record { index = suc m.index; below = omega (arith, m.below); is = m.is }
+    after false m = m
 
-  -- each member passes
-  pub picked_passes : (i n : ℕ) → Passes i n (picked f i n)
+module _ (f : ℕ → Bool) (i n : ℕ) where
+  -- each member is one of the numbers, and passes
+  pub picked_passes : (j : ℕ) → j < length (picked f i n) → Within i n (slice_index (picked f i n) j) × (f (slice_index (picked f i n) j) ≡ true)
   unfolding picked
-  picked_passes i zero = λ j l. absurd (omega arith)
-  picked_passes i (suc n) = passes_more (f i) i n (picked f (suc i) n) refl (picked_passes (suc i) n)
+  picked_passes j l = (All-filter f (Within i n) (range_with_len i n) (numbers_within i n) j 0 l, filter_passes f (range_with_len i n) j 0 l)
 
-  abbrev Ascends : List ℕ → Type 0
-  Ascends xs = (j k : ℕ) → j < k → k < length xs → slice_index xs j < slice_index xs k
-
-  ascends_more : (b : Bool) (i n : ℕ) (rest : List ℕ) → Passes (suc i) n rest → Ascends rest → Ascends (cond b (i ∷ rest) rest)
-  ascends_more true i n rest all up zero zero l m = absurd (omega arith)
-  ascends_more true i n rest all up zero (suc k) l m = let h = all k (omega arith) in omega arith
-  ascends_more true i n rest all up (suc j) zero l m = absurd (omega arith)
-  ascends_more true i n rest all up (suc j) (suc k) l m = up j k (omega arith) (omega arith)
-  ascends_more false i n rest all up j k l m = up j k l m
-
-  pub picked_ascends : (i n : ℕ) → Ascends (picked f i n)
+  pub picked_ascends : (j k : ℕ) → j < k → k < length (picked f i n) → slice_index (picked f i n) j < slice_index (picked f i n) k
   unfolding picked
-  picked_ascends i zero = λ j k l m. absurd (omega arith)
-  picked_ascends i (suc n) = ascends_more (f i) i n (picked f (suc i) n) (picked_passes (suc i) n) (picked_ascends (suc i) n)
-
-  member_more : (b : Bool) (i n : ℕ) (rest : List ℕ) (m : ℕ) → f i ≡ b → ((m : ℕ) → Within (suc i) n m → f m ≡ true → Member m rest) →
-      Within i (suc n) m → f m ≡ true → Member m (cond b (i ∷ rest) rest)
-  member_more true i n rest m e all w t =
-      ⊎_elim
-      (λ same. record { index = 0; below = omega arith; is = sym same })
-      (λ other. let h = all m (omega arith) t in record { index = suc h.index; below = omega arith; is = h.is })
-      (cases_eq m i)
-  member_more false i n rest m e all w t =
-      ⊎_elim (λ same. absurd (true≢false (sym t ∙ ap f same ∙ e))) (λ other. all m (omega arith) t) (cases_eq m i)
+  picked_ascends j k l m = AllPairs-filter (λ x y. x < y) f (range_with_len i n) (λ a b d less within. omega (arith, length-range_with_len i n, get_or-range_with_len i n a d, get_or-range_with_len i n b d)) j k 0 l m
 
   -- each number that passes is a member
-  pub picked_member : (i n m : ℕ) → Within i n m → f m ≡ true → Member m (picked f i n)
+  pub picked_member : (m : ℕ) → Within i n m → f m ≡ true → Member m (picked f i n)
   unfolding picked
-  picked_member i zero m w t = absurd (omega arith)
-  picked_member i (suc n) m w t = member_more (f i) i n (picked f (suc i) n) m refl (picked_member (suc i) n) w t
+  picked_member m w e =
+      let at : slice_index (range_with_len i n) (m - i) ≡ m = omega (arith, get_or-range_with_len i n (m - i) 0 (omega arith)) in
+      rw at at (filter_member f (range_with_len i n) (m - i) (omega (arith, length-range_with_len i n)) (rw at e))
 
-module _ (f g : ℕ → Bool) where
-  -- a number passes one of two opposite tests
-  pub picked_both : ((m : ℕ) → g m ≡ not (f m)) → (i n : ℕ) → length (picked f i n) + length (picked g i n) ≡ n
+-- two distinct sets, of which f's is no smaller: it has a member of its own
+module _ (f g : ℕ → Bool) (i n : ℕ) where
+  abbrev not_f : ℕ → Bool
+  not_f x = not (f x)
+
+  abbrev not_g : ℕ → Bool
+  not_g x = not (g x)
+
+  abbrev numbers : List ℕ
+  numbers = range_with_len i n
+
+  -- Some number passes f alone if some number passes g alone.
+  no_fewer : length (filter g numbers) ≤ length (filter f numbers) → length (filter not_f (filter g numbers)) ≤ length (filter f (filter not_g numbers))
+  no_fewer l = omega (
+    arith,
+    length-filter_both f not_f (λ _. refl) (filter g numbers),
+    sum_by-filter_both g not_g (λ _. refl) (λ x. cond (f x) 1 0) numbers,
+    length-filter f numbers,
+    length-filter f (filter g numbers),
+    length-filter f (filter not_g numbers),
+  )
+
+  pub distinct : (m : ℕ) → Within i n m → f m ≢ g m → length (picked g i n) ≤ length (picked f i n) → (r : ℕ) × Within i n r × (f r ≡ true) × (g r ≡ false)
   unfolding picked
-  picked_both opposite i zero = refl
-  picked_both opposite i (suc n) = rw (opposite i) (both_more (f i) (picked f (suc i) n) (picked g (suc i) n) (picked_both opposite (suc i) n))
-    where
-      both_more : (b : Bool) (xs ys : List ℕ) → length xs + length ys ≡ n → length (cond b (i ∷ xs) xs) + length (cond (not b) (i ∷ ys) ys) ≡ suc n
-      both_more true xs ys e = omega arith
-      both_more false xs ys e = omega arith
-
-  -- some number of n from i on passes f alone
-  abbrev pub Alone : ℕ → ℕ → Type 0
-  Alone i n = (m : ℕ) × Within i n m × (f m ≡ true) × (g m ≡ false)
-
-  later : (i n : ℕ) → Alone (suc i) n → Alone i (suc n)
-  later i n h = (h.0, omega arith, h.2, h.3)
-
-  longer_more : (a b : Bool) (i n : ℕ) (xs ys : List ℕ) → f i ≡ a → g i ≡ b → (length ys < length xs → Alone (suc i) n) →
-      length (cond b (i ∷ ys) ys) < length (cond a (i ∷ xs) xs) → Alone i (suc n)
-  longer_more true true i n xs ys e d rest l = later i n (rest (omega arith))
-  longer_more true false i n xs ys e d rest l = (i, (omega arith, omega arith), e, d)
-  longer_more false true i n xs ys e d rest l = later i n (rest (omega arith))
-  longer_more false false i n xs ys e d rest l = later i n (rest l)
-
-  -- where more pass f than g
-  longer : (i n : ℕ) → length (picked g i n) < length (picked f i n) → Alone i n
-  unfolding picked
-  longer i zero l = absurd (omega arith)
-  longer i (suc n) l = longer_more (f i) (g i) i n (picked f (suc i) n) (picked g (suc i) n) refl refl (longer (suc i) n) l
-
-  -- where the tests differ is another number than one where they agree
-  elsewhere : (i m : ℕ) (b : Bool) → f i ≡ b → g i ≡ b → f m ≢ g m → m ≢ i
-  elsewhere i m b e d ne same = ne (ap f same ∙ e ∙ sym d ∙ ap g (sym same))
-
-  distinct_more : (a b : Bool) (i n : ℕ) → f i ≡ a → g i ≡ b → (m : ℕ) → Within i (suc n) m → f m ≢ g m →
-      (Within (suc i) n m → length (picked g (suc i) n) ≤ length (picked f (suc i) n) → Alone (suc i) n) →
-      length (cond b (i ∷ picked g (suc i) n) (picked g (suc i) n)) ≤ length (cond a (i ∷ picked f (suc i) n) (picked f (suc i) n)) → Alone i (suc n)
-  distinct_more true true i n e d m w ne rest l = let other = elsewhere i m true e d ne in later i n (rest (omega arith) (omega arith))
-  distinct_more true false i n e d m w ne rest l = (i, (omega arith, omega arith), e, d)
-  distinct_more false true i n e d m w ne rest l = later i n (longer (suc i) n (omega arith))
-  distinct_more false false i n e d m w ne rest l = let other = elsewhere i m false e d ne in later i n (rest (omega arith) l)
-
-  -- two distinct sets, of which f's is no smaller: it has a member of its own
-  pub distinct : (i n m : ℕ) → Within i n m → f m ≢ g m → length (picked g i n) ≤ length (picked f i n) → Alone i n
-  unfolding picked
-  distinct i zero m w ne l = absurd (omega arith)
-  distinct i (suc n) m w ne l = distinct_more (f i) (g i) i n refl refl m w ne (λ w' l'. distinct (suc i) n m w' ne l') l
+  distinct m w ne l = elim (cases_Bool (f m)) [
+    | inl passes ↦ (m, w, passes, false_from_ne_true (g m) (λ e. ne (passes ∙ sym e)))
+    | inr fails ↦
+        let of_g = picked_member g i n m w (true_from_ne_false (g m) (λ e. ne (fails ∙ sym e))) in
+        let alone = filter_member not_f (filter g numbers) of_g.index of_g.below (rw of_g.is (not_from_false (f m) fails)) in
+        let some : 0 < length (filter f (filter not_g numbers)) = omega (arith, no_fewer l, alone.below) in (
+          slice_index (filter f (filter not_g numbers)) 0,
+          All-filter f (Within i n) (filter not_g numbers) (All-filter not_g (Within i n) numbers (numbers_within i n)) 0 0 some,
+          filter_passes f (filter not_g numbers) 0 0 some,
+          not-true (g _) (All-filter f (λ x. not_g x ≡ true) (filter not_g numbers) (filter_passes not_g numbers) 0 0 some),
+        )
+  ]

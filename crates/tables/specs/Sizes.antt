@@ -49,3 +49,7 @@ sizes_fit q law =
     writes.below reads.below writes.ascending reads.ascending
     (λ i j l m e. law.apart 0 (slice_index (q.read_set 0) j) (omega arith)
     (record { index = i; below = omega (arith, writes.sized); is = e }) (record { index = j; below = omega (arith, reads.sized); is = refl }))
+
+-- so that code may add the two sizes
+pub small_sizes : (q : Table) → Lawful q → q.write_size + q.read_size ≤ 998
+small_sizes q law = omega (arith, sizes_fit q law, law.small)

@@ -1,5 +1,5 @@
-ghost use Rattle.std.specs.Prelude.{◌≡◌, ◌<◌};
-ghost use Rattle.tables.specs.Bits.{bit as bit_of};
+ghost use Rattle.std.specs.Prelude.{◌≡◌, refl, ◌<◌};
+ghost use Rattle.std.specs.Int.{bit_at};
 ghost use Rattle.tables.specs.BitPairs.{bit_pairs};
 ghost use Rattle.tables.specs.BitPairsLawful.{bit_pairs_lawful};
 
@@ -12,11 +12,12 @@ pub struct BitPairs;
 // A bit of the mark, bit 0 lowest.
 fn bit(mark: u8, index: u16) -> u16
     requires { index < 8 }
-    ensures { result ≡ bit_of mark index }
+    ensures { result ≡ bit_at mark index }
 {
     u16::from((mark >> index) & 1)
 }
 
+#[tactic(auto, using(crate::specs::BitPairsLawful::listed_at, crate::specs::BitPairsLawful::listed_past))]
 impl QuorumTable for BitPairs {
     const POOL: u16 = 16;
 
@@ -24,21 +25,15 @@ impl QuorumTable for BitPairs {
 
     const READS: u16 = 8;
 
+    ghost POOL = { bit_pairs.pool_size };
+
+    ghost WRITES = { bit_pairs.write_size };
+
+    ghost READS = { bit_pairs.read_size };
+
     ghost table = { bit_pairs };
 
     ghost lawful = { bit_pairs_lawful };
-
-    fn pool_size() -> u16 {
-        Self::POOL
-    }
-
-    fn write_size() -> u16 {
-        Self::WRITES
-    }
-
-    fn read_size() -> u16 {
-        Self::READS
-    }
 
     fn write_register(mark: u8, index: u16) -> u16 {
         if index < Self::WRITES {
@@ -55,4 +50,6 @@ impl QuorumTable for BitPairs {
             0
         }
     }
+
+    ghost sizes = { (refl, refl, refl) };
 }

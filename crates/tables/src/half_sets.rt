@@ -1,4 +1,4 @@
-ghost use Rattle.std.specs.Prelude.{◌≡◌, slice_index};
+ghost use Rattle.std.specs.Prelude.{◌≡◌, refl, slice_index};
 ghost use Rattle.tables.specs.HalfSets.{entry as entry_of, half_sets, places};
 ghost use Rattle.tables.specs.HalfSetsLawful.{half_sets_lawful};
 
@@ -36,16 +36,10 @@ fn entry(mark: u8) -> u16
 fn register_at(number: u16, bit: u16, index: u16) -> u16
     ensures { result ≡ slice_index (places number bit 11) index }
 {
-    let mut left = index;
-    for register in 0..HalfSets::POOL {
-        if (number >> register) & 1 == bit {
-            if left == 0 {
-                return register;
-            }
-            left -= 1;
-        }
-    }
-    0
+    (0..HalfSets::POOL)
+        .filter(|register| (number >> register) & 1 == bit)
+        .nth(usize::from(index))
+        .unwrap_or(0)
 }
 
 impl QuorumTable for HalfSets {
@@ -55,21 +49,15 @@ impl QuorumTable for HalfSets {
 
     const READS: u16 = 6;
 
+    ghost POOL = { half_sets.pool_size };
+
+    ghost WRITES = { half_sets.write_size };
+
+    ghost READS = { half_sets.read_size };
+
     ghost table = { half_sets };
 
     ghost lawful = { half_sets_lawful };
-
-    fn pool_size() -> u16 {
-        Self::POOL
-    }
-
-    fn write_size() -> u16 {
-        Self::WRITES
-    }
-
-    fn read_size() -> u16 {
-        Self::READS
-    }
 
     fn write_register(mark: u8, index: u16) -> u16 {
         register_at(entry(mark), 1, index)
@@ -78,4 +66,6 @@ impl QuorumTable for HalfSets {
     fn read_register(mark: u8, index: u16) -> u16 {
         register_at(entry(mark), 0, index)
     }
+
+    ghost sizes = { (refl, refl, refl) };
 }

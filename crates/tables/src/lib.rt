@@ -17,14 +17,5 @@ pub fn examples() -> [u16; 8]
     ensures written { result ≡ bit_pairs.write_set 5 }
     ensures examples { Examples }
 {
-    [
-        BitPairs::write_register(5, 0),
-        BitPairs::write_register(5, 1),
-        BitPairs::write_register(5, 2),
-        BitPairs::write_register(5, 3),
-        BitPairs::write_register(5, 4),
-        BitPairs::write_register(5, 5),
-        BitPairs::write_register(5, 6),
-        BitPairs::write_register(5, 7),
-    ]
+    [0, 1, 2, 3, 4, 5, 6, 7].map(|index| BitPairs::write_register(5, index))
 }

@@ -1,4 +1,5 @@
-ghost use Rattle.std.specs.Prelude.{◌≡◌, slice_index};
+ghost use Rattle.std.specs.Prelude.{◌≡◌, ℕ, ◌+◌, ◌≤◌, slice_index};
+ghost use Rattle.tables.specs.Sizes.{small_sizes};
 ghost use Rattle.tables.specs.Table.{Table, Lawful};
 
 // A write set and a read set of registers for each mark, out of one pool: registers 0 to k − 1. The write set of a mark has a
@@ -11,21 +12,18 @@ pub trait QuorumTable {
 
     const READS: u16;
 
+    // The same numbers, by which clauses name them.
+    ghost POOL: { ℕ };
+
+    ghost WRITES: { ℕ };
+
+    ghost READS: { ℕ };
+
     // The sizes and the sets.
     ghost table: { Table };
 
     // What holds of them, with its proof.
     ghost lawful: { Lawful table };
-
-    // Generic code reads each constant by a function, whose contract says which number of the table it is.
-    fn pool_size() -> u16
-        ensures { result ≡ table.pool_size };
-
-    fn write_size() -> u16
-        ensures { result ≡ table.write_size };
-
-    fn read_size() -> u16
-        ensures { result ≡ table.read_size };
 
     // The register at an index of the mark's write set, lowest first; 0 past its end.
     fn write_register(mark: u8, index: u16) -> u16
@@ -33,4 +31,10 @@ pub trait QuorumTable {
 
     fn read_register(mark: u8, index: u16) -> u16
         ensures { result ≡ slice_index (table.read_set mark) index };
+
+    // Each constant is the table's number.
+    ghost sizes: { (POOL ≡ table.pool_size) × (WRITES ≡ table.write_size) × (READS ≡ table.read_size) };
+
+    // The two sets of a mark share no register, so that together they have no more than the pool.
+    ghost sizes_fit: { table.write_size + table.read_size ≤ 998 } = { small_sizes table lawful };
 }

@@ -1,5 +1,5 @@
 use Rattle.std.proofs.Common.{ap}
-use lib.Count.{ones_in}
+use Rattle.std.specs.Int.Count.{ones_in}
 use Rattle.tables.specs.HalfSets.{entry}
 use Rattle.tables.specs.Picked.{picked}
 use Rattle.tables.proofs.half_sets.entry.Goals as goal
