@@ -1,7 +1,6 @@
 #![tactic(auto)]
 
 ghost use Rattle.std.specs.Prelude.{◌≡◌, ℕ, ◌+◌, ◌-◌, ◌≤◌, length, nat_le};
-ghost use Rattle.deciding.specs.Laws.{mark as outcome_mark};
 ghost use Rattle.listing.specs.Over.{Extends};
 ghost use Rattle.listing.specs.Puts.{Appends, Stands};
 ghost use Rattle.listing.specs.Words.{line_of, spelled};
@@ -122,7 +121,7 @@ impl<'a> Listing<'a> {
                 register,
                 content,
                 Word::from(outcome),
-                Word::from(mark_of(outcome)),
+                Word::from(outcome.mark()),
             ]),
         }
     }
@@ -175,14 +174,5 @@ impl<'a> Listing<'a> {
         let end = self.end + bytes.len();
         self.bytes[self.end..end].copy_from_slice(bytes);
         self.end = end;
-    }
-}
-
-fn mark_of(outcome: Outcome) -> u8
-    ensures { result ≡ outcome_mark outcome }
-{
-    match outcome {
-        Outcome::Adopt(mark) => mark,
-        Outcome::Commit(mark) => mark,
     }
 }

@@ -144,7 +144,7 @@ module _ {Setup Phase : Type 0} (p : Protocol Setup Phase) {Meets : Phase â†’ â„
   running_good x reached = reached
 
   -- THE OBJECT: the machine, and whether its making was refused
-  pub kept_deciding : Deciding (refusable (machine_of p))
+  abbrev pub kept_deciding : Deciding (refusable (machine_of p))
   kept_deciding = refusable_deciding (machine_of p) running_deciding
 
 -- THE MAKING
@@ -177,7 +177,7 @@ module _ {Setup Phase : Type 0} (p : Protocol Setup Phase) {Meets : Phase â†’ â„
 
   -- every making begins an object that is reached
   pub made_reached : (kept_deciding p kept).Reached (made p u xs)
-  unfolding kept_deciding running_deciding
+  unfolding running_deciding
   made_reached none =
       let good = fresh_good none in
       record { reached = good; sizes = both_within _ _ _ good.some good.fitting.few (kept.within u good.some good.fitting.few) }

@@ -6,8 +6,8 @@ ghost use Rattle.quorum.specs.Kept.{quorum_kept};
 ghost use Rattle.quorum.specs.Examples.{limits, Examples};
 
 use deciding::record::Outcome;
-use machine::marks::mark_of;
-use machine::protocol::Protocol;
+use machine::marks::{content_for, mark_of};
+use machine::protocol::{Proposer, Protocol};
 use machine::status::Plan;
 use refusal::Refusal;
 use std::marker::PhantomData;
@@ -70,19 +70,20 @@ impl<Q: QuorumTable> Protocol for Quorum<Q> {
         true
     }
 
-    fn question(&self) -> Option<Refusal> {
-        None // it asks nothing of its own
+    fn question(&self) -> Result<(), Refusal> {
+        Ok(()) // it asks nothing of its own
     }
 
     fn begin(&self) -> QuorumPhase {
         QuorumPhase::WriteSet { index: 0 }
     }
 
-    fn plan(&self, _station: u8, proposal: u8, phase: &QuorumPhase) -> Plan {
+    fn plan(&self, proposer: Proposer, phase: &QuorumPhase) -> Plan {
+        let proposal = proposer.proposal;
         match *phase {
             QuorumPhase::WriteSet { index } => Plan::Write(Q::write_register(proposal, index), 1),
             QuorumPhase::ReadPreference => Plan::Read(Q::POOL),
-            QuorumPhase::WritePreference => Plan::Write(Q::POOL, u16::from(proposal) + 1),
+            QuorumPhase::WritePreference => Plan::Write(Q::POOL, content_for(proposal)),
             QuorumPhase::ReadSet { preference, index } => {
                 Plan::Read(Q::read_register(preference, index))
             }
@@ -91,8 +92,7 @@ impl<Q: QuorumTable> Protocol for Quorum<Q> {
 
     fn advance(
         &self,
-        _station: u8,
-        proposal: u8,
+        proposer: Proposer,
         phase: &mut QuorumPhase,
         content: u16,
         _coin: u8,
@@ -112,7 +112,7 @@ impl<Q: QuorumTable> Protocol for Quorum<Q> {
                 index: 0,
             },
             QuorumPhase::WritePreference => QuorumPhase::ReadSet {
-                preference: proposal,
+                preference: proposer.proposal,
                 index: 0,
             },
             QuorumPhase::ReadSet { preference, .. } if content != 0 => {

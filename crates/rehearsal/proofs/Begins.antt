@@ -1,5 +1,7 @@
 -- A pile that begins: its line, and its trial with nobody stopped.
-use Rattle.std.proofs.Common.{◌≡◌, ℕ, ◌+◌, List, length, drop, sym, ap, ◌∙◌, subst}
+use Rattle.std.proofs.Common.{◌≡◌, ℕ, ◌+◌, List, length, Option, sym, ap, ◌∙◌, subst}
+use Rattle.std.specs.declared.ops.ControlFlow.{ControlFlow}
+use Rattle.refusal.specs.declared.Refusal.{Refusal}
 use Rattle.deciding.specs.Machine.{Machine}
 use Rattle.deciding.specs.declared.refusable.Refusable.{Refusable}
 use Rattle.deciding.specs.Refusable.{refusable}
@@ -8,18 +10,18 @@ use Rattle.listing.specs.declared.line.Line.TheVariants as line
 use Rattle.listing.specs.Over.{over}
 use Rattle.listing.specs.Lines.{text}
 use Rattle.schedule.specs.declared.pile.Pile.{Pile}
-use Rattle.schedule.specs.Script.{Item, script}
+use Rattle.schedule.specs.Script.{Item}
 use Rattle.trial.specs.Perform.{TrialState}
 use Rattle.trial.specs.Trials.{new_trial}
 use Rattle.rehearsal.specs.declared.verdict.Start.{Start}
-use Rattle.rehearsal.specs.declared.verdict.Served.{Served}
+use Rattle.rehearsal.specs.declared.serving.Run.{Run}
 use Rattle.rehearsal.specs.Lines.{pile_line}
 use Rattle.sequence.specs.Joint.{Pair}
 use Rattle.sequence.specs.Making.{sequence_made}
 use Rattle.rehearsal.specs.Piles.{Built, built, in_sequence}
 use Rattle.rehearsal.specs.Responders.{trial_in}
 use Rattle.rehearsal.specs.Runs.{pile_begun}
-use Rattle.rehearsal.specs.Serving.{Final, finish, went, started, renewed, Arrives}
+use Rattle.rehearsal.specs.Serving.{Final, finish, went, started, coming, starts, renews, Arrives}
 
 -- the line of the trial t, which is a new one, was written
 pub begins_at : (m : Machine) (xs : List Item) (p : ℕ) (bytes : List ℕ) (at : ℕ) (k : Pile) (x : m.State) (t : TrialState (Refusable m.State)) (n l r : ℕ) (after : List ℕ) (w : ℕ) →
@@ -37,14 +39,12 @@ begins_at m xs p bytes at k x t n l r after w is is_n is_l is_r is_after is_w =
     ∙ ap (λ (z : TrialState (Refusable m.State)). finish xs p (over bytes at (text now)) (at + length (text now)) (trial_in (refusable m) z)) is
 
 -- an object in the state of the pile that an N asks for was made and served
-pub pile_arrives : (bs : List ℕ) (u : Start) (p : ℕ) (bytes : List ℕ) (w : ℕ) (r : Served) (q : ℕ) (after : List ℕ) (d : Built) (x : d.machine.State) →
-    built u.pile u.stations u.leader ≡ d → x ≡ d.start →
-    (d.deciding.Reached x → Arrives bs (started u.pile d.machine x (script (drop p bs)) p bytes w) r q after) →
-    Arrives bs (renewed u (script (drop p bs)) p bytes w) r q after
-pile_arrives bs u p bytes w r q after d x asked is arrives =
-    let came : Built → Final = λ e. went (pile_begun u.pile e) p bytes w (finish (script (drop p bs))) in
-    subst (λ (f : Final). Arrives bs f r q after)
-    (ap (λ y. started u.pile d.machine y (script (drop p bs)) p bytes w) is ∙ sym (ap came asked))
+pub pile_arrives : (x : Run) (u : Start) (r : ControlFlow (Option Refusal) Start) (y : Run) (d : Built) (s : d.machine.State) →
+    built u.pile u.stations u.leader ≡ d → s ≡ d.start → (d.deciding.Reached s → Arrives (starts x u.pile d.machine s) r y) → Arrives (renews x u) r y
+pile_arrives x u r y d s asked is arrives =
+    let came : Built → Final = λ e. went (pile_begun u.pile e) x.reader.position x.listing.bytes.now x.listing.end (finish (coming x)) in
+    subst (λ (f : Final). Arrives f r y)
+    (ap (λ z. starts x u.pile d.machine z) is ∙ sym (ap came asked))
     (arrives (subst d.deciding.Reached (sym is) d.reached))
 
 -- the state of a sequence of two piles just made

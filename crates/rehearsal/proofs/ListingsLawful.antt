@@ -16,8 +16,8 @@ use Rattle.schedule.specs.Piles.{number_of_pile, pile_numbered, Names}
 use Rattle.schedule.specs.Script as script
 use Rattle.schedule.specs.Script.{Kind, Item, command, broken, operands, with_operands, item, tail, items, script}
 use Rattle.trial.specs.declared.call.Call.{Call}
-use Rattle.trial.specs.declared.call.Answer.{Answer}
-use Rattle.trial.specs.declared.call.Answer.TheVariants as answer
+use Rattle.trial.specs.Answers.{Answer}
+use Rattle.trial.specs.declared.call.Effect.TheVariants as effect
 use Rattle.trial.specs.Events.{◌gives◌, events_of, Among}
 use Rattle.trial.specs.Law.{Lawful}
 use Rattle.trial.specs.Perform.{TrialState, Small, AllSmall, perform, trial_refusal, answers, last}
@@ -159,10 +159,10 @@ same x l xs y k ys e =
     record { items = ap item_in h; lines = ap line_in h; rest = ap rest_of e }
 
 answer_no_pile : (c : Call) (a : Answer) → is_pile (answer_line c a) ≡ false
-answer_no_pile c (answer.Refused q) = refl
-answer_no_pile c answer.Entered = refl
-answer_no_pile c (answer.Stepped i o) = refl
-answer_no_pile c answer.Stopped = refl
+answer_no_pile c (Err q) = refl
+answer_no_pile c (Ok effect.Entered) = refl
+answer_no_pile c (Ok (effect.Stepped i o)) = refl
+answer_no_pile c (Ok effect.Stopped) = refl
 
 -- WITHOUT A NEW PILE the calls are put to one responder, one after another
 module _ {S : Type 0} (f : S → Call → Heard S) where
@@ -219,7 +219,7 @@ module _ {S : Type 0} (f : S → Call → Heard S) where
   stretch (i ∷ is) small room x ((y got k) ∷ ps) after e none = one_line i is small.0 (stretch is small.1) room x y k ps after (verdict room i) (judged room i) e none
 
 -- BEFORE THE FIRST PILE
-all_refused : (calls : List Call) (c : Call) (a : Answer) → Among (c gives a) (events_of calls (heard refuses_all tt calls)) → a ≡ answer.Refused NoPile
+all_refused : (calls : List Call) (c : Call) (a : Answer) → Among (c gives a) (events_of calls (heard refuses_all tt calls)) → a ≡ Err NoPile
 all_refused [] c a h = absurd h
 all_refused (k ∷ ks) c a (inl e) = cc
 all_refused (k ∷ ks) c a (inr h) = all_refused ks c a h

@@ -1,16 +1,18 @@
 -- One command of a run: what is to come before it, and after it.
-use Rattle.std.proofs.Common.{◌≡◌, ℕ, ◌+◌, ◌-◌, ltb, List, [], ◌∷◌, length, drop, Some, None, Option, sym, refl, ap, ◌∙◌, subst, inl, inr, append-nil, arith}
+use Rattle.std.proofs.Common.{◌≡◌, ℕ, ◌+◌, ◌-◌, ◌≤◌, ltb, List, [], ◌∷◌, length, drop, Some, None, Ok, Err, Option, Result, sym, refl, ap, ◌∙◌, subst, inl, inr, append-nil, arith}
 use Rattle.std.proofs.lemmas.Bool.{cond-true, cond-false, lt-ltb, le-ltb, cases_lt}
 use Rattle.refusal.specs.declared.Refusal.{Refusal}
+use Rattle.listing.specs.declared.line.Line.{Line}
 use Rattle.listing.specs.declared.line.Line.TheVariants.{Refused}
 use Rattle.listing.specs.Over.{over}
 use Rattle.listing.specs.Lines.{text}
+use Rattle.listing.specs.Puts.{Appends, Stands}
 use Rattle.listing.proofs.Overs.{over_none}
 use Rattle.schedule.specs.Script.{script, tail}
 use Rattle.schedule.specs.Reading.{reading}
 use Rattle.schedule.proofs.Scripts.{script_at, script_end}
 use Rattle.trial.specs.declared.call.Call.{Call}
-use Rattle.trial.specs.declared.call.Answer.{Answer}
+use Rattle.trial.specs.Answers.{Answer}
 use Rattle.rehearsal.specs.declared.verdict.Verdict.{Verdict}
 use Rattle.rehearsal.specs.declared.verdict.Verdict.TheVariants.{Ends, Halts, Refuses, Begins, Asks}
 use Rattle.rehearsal.specs.Lines.{answer_line, listed}
@@ -63,13 +65,18 @@ one_listed : (q : Refusal) → listed (Refused q ∷ []) ≡ text (Refused q)
 unfolding listed
 one_listed q = append-nil (text (Refused q))
 
--- A run that ends as `whole` tells stands at p, and the next command was judged.
-module _ (whole : Final) (bs seen : List ℕ) (p : ℕ) (bytes : List ℕ) (w q : ℕ) (same : seen ≡ bs) where
-  pub on : (st : Responder) (r : Verdict) → whole ≡ finish (script (drop p bs)) p bytes w st → Judges seen p (length bytes - w) r q →
-      whole ≡ went (done r st) q bytes w (finish (script (drop q bs)))
-  on st r here j = here ∙ turn bs p bytes w st r q (subst (λ (b : List ℕ). Judges b p (length bytes - w) r q) same j)
+-- a line for which there was room was put
+pub put_stands : (bs : List ℕ) (at : ℕ) (l : Line) (r : Result (Unit {0}) Refusal) (end : ℕ) (new : List ℕ) → 48 ≤ length bs - at → Appends bs at l r end new → Stands bs at l end new
+put_stands bs at l (Ok u) end new room put = put
+put_stands bs at l (Err e) end new room put = absurd (omega (arith, room, put.0.0))
 
-  pub on_ends : (st : Responder) (k : Option Refusal) → whole ≡ finish (script (drop p bs)) p bytes w st → Judges seen p (length bytes - w) (Ends k) q →
+-- A run that ends as `whole` tells stands at p, and the next command was judged; `seen` is the schedule after that.
+module _ (whole : Final) (bs seen : List ℕ) (p : ℕ) (bytes : List ℕ) (w q : ℕ) (same : seen ≡ bs) where
+  pub on : (st : Responder) (r : Verdict) → whole ≡ finish (script (drop p bs)) p bytes w st → Judges bs p (length bytes - w) r q →
+      whole ≡ went (done r st) q bytes w (finish (script (drop q seen)))
+  on st r here j = here ∙ turn bs p bytes w st r q j ∙ ap (λ b. went (done r st) q bytes w (finish (script (drop q b)))) (sym same)
+
+  pub on_ends : (st : Responder) (k : Option Refusal) → whole ≡ finish (script (drop p bs)) p bytes w st → Judges bs p (length bytes - w) (Ends k) q →
       whole ≡ record { listing = bytes; consumed = q; written = w; ended = k }
   on_ends st k here j =
       let none = none_listed bytes w in
@@ -77,28 +84,31 @@ module _ (whole : Final) (bs seen : List ℕ) (p : ℕ) (bytes : List ℕ) (w q 
       ∙ ap (λ b. record { listing = b; consumed = q; written = w + length (listed []); ended = k }) (sym none.0)
       ∙ ap (λ e. record { listing = bytes; consumed = q; written = e; ended = k }) (sym none.1)
 
-  pub on_halts : (st : Responder) (k : Refusal) (after : List ℕ) (end : ℕ) → whole ≡ finish (script (drop p bs)) p bytes w st → Judges seen p (length bytes - w) (Halts k) q →
-      after ≡ over bytes w (text (Refused k)) → end ≡ w + length (text (Refused k)) → whole ≡ record { listing = after; consumed = q; written = end; ended = Some k }
-  on_halts st k after end here j a e =
-      on st (Halts k) here j
-      ∙ ap (λ b. record { listing = over bytes w b; consumed = q; written = w + length b; ended = Some k }) (one_listed k)
-      ∙ ap (λ b. record { listing = b; consumed = q; written = w + length (text (Refused k)); ended = Some k }) (sym a)
-      ∙ ap (λ n. record { listing = after; consumed = q; written = n; ended = Some k }) (sym e)
+  -- a line was put
+  module _ (end : ℕ) (after : List ℕ) where
+    pub on_halts : (st : Responder) (k : Refusal) → whole ≡ finish (script (drop p bs)) p bytes w st → Judges bs p (length bytes - w) (Halts k) q →
+        Stands bytes w (Refused k) end after → whole ≡ record { listing = after; consumed = q; written = end; ended = Some k }
+    on_halts st k here j put =
+        on st (Halts k) here j
+        ∙ ap (λ b. record { listing = over bytes w b; consumed = q; written = w + length b; ended = Some k }) (one_listed k)
+        ∙ ap (λ b. record { listing = b; consumed = q; written = w + length (text (Refused k)); ended = Some k }) (sym put.after)
+        ∙ ap (λ n. record { listing = after; consumed = q; written = n; ended = Some k }) (sym put.ends)
 
-  pub on_refuses : (st : Responder) (k : Refusal) (after : List ℕ) (end : ℕ) → whole ≡ finish (script (drop p bs)) p bytes w st → Judges seen p (length bytes - w) (Refuses k) q →
-      after ≡ over bytes w (text (Refused k)) → end ≡ w + length (text (Refused k)) → whole ≡ finish (script (drop q bs)) q after end st
-  on_refuses st k after end here j a e =
-      on st (Refuses k) here j
-      ∙ ap (λ b. finish (script (drop q bs)) q b (w + length (text (Refused k))) st) (sym a)
-      ∙ ap (λ n. finish (script (drop q bs)) q after n st) (sym e)
+    pub on_refuses : (st : Responder) (k : Refusal) → whole ≡ finish (script (drop p bs)) p bytes w st → Judges bs p (length bytes - w) (Refuses k) q →
+        Stands bytes w (Refused k) end after → whole ≡ finish (script (drop q seen)) q after end st
+    on_refuses st k here j put =
+        on st (Refuses k) here j
+        ∙ ap (λ b. finish (script (drop q seen)) q b (w + length (text (Refused k))) st) (sym put.after)
+        ∙ ap (λ n. finish (script (drop q seen)) q after n st) (sym put.ends)
 
-  -- a call is answered
-  pub on_asks : {X : Type 0} (f : X → Call → Heard X) (x y : X) (c : Call) (a : Answer) (after : List ℕ) (end : ℕ) → whole ≡ finish (script (drop p bs)) p bytes w (in_state f x) →
-      Judges seen p (length bytes - w) (Asks c) q → a ≡ (f x c).answer → y ≡ (f x c).next →
-      after ≡ over bytes w (text (answer_line c a)) → end ≡ w + length (text (answer_line c a)) → whole ≡ finish (script (drop q bs)) q after end (in_state f y)
-  on_asks f x y c a after end here j is_a is_y o e =
-      on (in_state f x) (Asks c) here j
-      ∙ ap (λ b. finish (script (drop q bs)) q (over bytes w (text (answer_line c b))) (w + length (text (answer_line c b))) (in_state f (f x c).next)) (sym is_a)
-      ∙ ap (λ z. finish (script (drop q bs)) q (over bytes w (text (answer_line c a))) (w + length (text (answer_line c a))) (in_state f z)) (sym is_y)
-      ∙ ap (λ b. finish (script (drop q bs)) q b (w + length (text (answer_line c a))) (in_state f y)) (sym o)
-      ∙ ap (λ n. finish (script (drop q bs)) q after n (in_state f y)) (sym e)
+    -- a call is answered
+    pub on_asks : {X : Type 0} (f : X → Call → Heard X) (x y : X) (c : Call) (a : Answer) (l : Line) → whole ≡ finish (script (drop p bs)) p bytes w (in_state f x) →
+        Judges bs p (length bytes - w) (Asks c) q → a ≡ (f x c).answer → y ≡ (f x c).next → l ≡ answer_line c a →
+        Stands bytes w l end after → whole ≡ finish (script (drop q seen)) q after end (in_state f y)
+    on_asks f x y c a l here j is_a is_y is_l put =
+        let is : l ≡ answer_line c (f x c).answer = is_l ∙ ap (answer_line c) is_a in
+        on (in_state f x) (Asks c) here j
+        ∙ ap (λ (k : Line). finish (script (drop q seen)) q (over bytes w (text k)) (w + length (text k)) (in_state f (f x c).next)) (sym is)
+        ∙ ap (λ z. finish (script (drop q seen)) q (over bytes w (text l)) (w + length (text l)) (in_state f z)) (sym is_y)
+        ∙ ap (λ b. finish (script (drop q seen)) q b (w + length (text l)) (in_state f y)) (sym put.after)
+        ∙ ap (λ n. finish (script (drop q seen)) q after n (in_state f y)) (sym put.ends)

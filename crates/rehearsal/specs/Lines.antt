@@ -1,5 +1,5 @@
 -- The lines that a run lists.
-use Rattle.std.specs.Prelude.{ℕ, List, [], ◌∷◌, ◌++◌}
+use Rattle.std.specs.Prelude.{ℕ, List, [], ◌∷◌, ◌++◌, Ok, Err}
 use Rattle.listing.specs.declared.line.Line.{Line}
 use Rattle.listing.specs.declared.line.Line.TheVariants as line
 use Rattle.listing.specs.Lines.{text}
@@ -7,8 +7,8 @@ use Rattle.deciding.specs.Machine.{Machine}
 use Rattle.schedule.specs.declared.pile.Pile.{Pile}
 use Rattle.trial.specs.declared.call.Call.{Call}
 use Rattle.trial.specs.declared.call.Call.TheVariants.{Enter, Step, Stop}
-use Rattle.trial.specs.declared.call.Answer.{Answer}
-use Rattle.trial.specs.declared.call.Answer.TheVariants.{Refused, Entered, Stepped, Stopped}
+use Rattle.trial.specs.Answers.{Answer}
+use Rattle.trial.specs.declared.call.Effect.TheVariants.{Entered, Stepped, Stopped}
 use Rattle.trial.specs.Perform.{station_of}
 
 -- the mark of an enter
@@ -19,10 +19,10 @@ mark_of (Stop s) = 0
 
 -- the line of a call and its answer
 abbrev pub answer_line : Call → Answer → Line
-answer_line c (Refused q) = line.Refused q
-answer_line c Entered = line.Entered (station_of c) (mark_of c)
-answer_line c (Stepped i o) = line.Stepped (station_of c) i o
-answer_line c Stopped = line.Stopped (station_of c)
+answer_line c (Err q) = line.Refused q
+answer_line c (Ok Entered) = line.Entered (station_of c) (mark_of c)
+answer_line c (Ok (Stepped i o)) = line.Stepped (station_of c) i o
+answer_line c (Ok Stopped) = line.Stopped (station_of c)
 
 -- the line of an N that was accepted, by the numbers that the trial tells
 abbrev pub pile_line : Pile → (m : Machine) → m.State → Line

@@ -1,7 +1,7 @@
 -- THE LAW OF LISTINGS: what the lines of a run tell, read beside the commands that they belong to, whatever the schedule is.
 -- From the line of a pile to that of the next one they tell of one trial, and its calls and answers obey the law of runs
 -- (Law.antt of the crate trial). Nothing here speaks of machines, boards or sequences.
-use Rattle.std.specs.Prelude.{◌≡◌, ◌≢◌, ℕ, ◌<◌, ◌≤◌, Bool, true, false, List, [], ◌∷◌, ◌++◌, length, Some, None, Option, slice_index}
+use Rattle.std.specs.Prelude.{◌≡◌, ◌≢◌, ℕ, ◌<◌, ◌≤◌, Bool, true, false, List, [], ◌∷◌, ◌++◌, length, Some, None, Err, Option, slice_index}
 use Rattle.refusal.specs.declared.Refusal.{Refusal}
 use Rattle.refusal.specs.declared.Refusal.TheVariants.{UnknownPile, StationCount, LeaderOutOfRange, NoPile}
 use Rattle.deciding.specs.declared.record.Record.{Record}
@@ -13,8 +13,7 @@ use Rattle.schedule.specs.Script as script
 use Rattle.schedule.specs.Script.{Item, command, broken, script}
 use Rattle.trial.specs.declared.call.Call.{Call}
 use Rattle.trial.specs.declared.call.Call.TheVariants.{Enter, Step, Stop}
-use Rattle.trial.specs.declared.call.Answer.{Answer}
-use Rattle.trial.specs.declared.call.Answer.TheVariants.{Refused}
+use Rattle.trial.specs.Answers.{Answer}
 use Rattle.trial.specs.Events.{Event, ◌gives◌, Among}
 use Rattle.trial.specs.Law.{Lawful, InRange}
 use Rattle.rehearsal.specs.Lines.{answer_line}
@@ -87,7 +86,7 @@ AsksFor (command script.stop ops) p n = ⊥
 pub record TurnedAway (lines : List Listed) : Type 0 where
   pub events : List Event
   pub told : Tells lines events
-  pub refused : (c : Call) (a : Answer) → Among (c gives a) events → a ≡ Refused NoPile
+  pub refused : (c : Call) (a : Answer) → Among (c gives a) events → a ≡ Err NoPile
 
 -- One trial: its calls and answers obey the law of runs, as those of a ratifying object of n stations with this limit; each
 -- step is on one of its registers; and the records of the law are there.

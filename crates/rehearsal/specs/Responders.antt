@@ -1,10 +1,9 @@
 -- What the calls of a schedule are put to.
-use Rattle.std.specs.Prelude.{◌≡◌}
+use Rattle.std.specs.Prelude.{◌≡◌, Err}
 use Rattle.refusal.specs.declared.Refusal.TheVariants.{NoPile}
 use Rattle.deciding.specs.Machine.{Machine}
 use Rattle.trial.specs.declared.call.Call.{Call}
-use Rattle.trial.specs.declared.call.Answer.{Answer}
-use Rattle.trial.specs.declared.call.Answer.TheVariants.{Refused}
+use Rattle.trial.specs.Answers.{Answer}
 use Rattle.trial.specs.Perform.{TrialState, perform}
 
 -- the answer to a call, and the state after it
@@ -23,7 +22,7 @@ in_state {S} f x = record { State = S; answers = f; state = x }
 
 -- before an N was accepted every call is refused
 abbrev pub refuses_all : Unit {0} → Call → Heard (Unit {0})
-refuses_all x c = record { answer = Refused NoPile; next = x }
+refuses_all x c = record { answer = Err NoPile; next = x }
 
 abbrev pub no_trial : Responder
 no_trial = in_state refuses_all tt

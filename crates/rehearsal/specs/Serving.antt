@@ -1,5 +1,7 @@
 -- The run as its code comes to it: the listing, the place in the schedule and what answers calls are carried along.
-use Rattle.std.specs.Prelude.{◌≡◌, ℕ, ◌+◌, ◌-◌, ◌<◌, ◌≤◌, cond, List, [], ◌∷◌, length, drop, None, Option, nat_lt}
+use Rattle.std.specs.Prelude.{◌≡◌, ℕ, ◌+◌, ◌-◌, ◌<◌, ◌≤◌, cond, List, [], ◌∷◌, length, drop, None, Ok, Err, Option, Result, nat_lt}
+use Rattle.std.specs.declared.ops.ControlFlow.{ControlFlow}
+use Rattle.std.specs.declared.ops.ControlFlow.TheVariants.{Break, Continue}
 use Rattle.refusal.specs.declared.Refusal.{Refusal}
 use Rattle.deciding.specs.Machine.{Machine}
 use Rattle.listing.specs.Over.{over}
@@ -10,8 +12,7 @@ use Rattle.schedule.specs.Reading.{reading}
 use Rattle.rehearsal.specs.declared.verdict.Start.{Start}
 use Rattle.rehearsal.specs.declared.verdict.Verdict.{Verdict}
 use Rattle.rehearsal.specs.declared.verdict.Verdict.TheVariants.{Ends, Halts, Refuses, Begins, Asks}
-use Rattle.rehearsal.specs.declared.verdict.Served.{Served}
-use Rattle.rehearsal.specs.declared.verdict.Served.TheVariants.{Ended, Next}
+use Rattle.rehearsal.specs.declared.serving.Run.{Run}
 use Rattle.rehearsal.specs.Lines.{listed}
 use Rattle.rehearsal.specs.Piles.{built}
 use Rattle.rehearsal.specs.Responders.{Responder}
@@ -33,6 +34,11 @@ judging bs p room = cond (nat_lt p (length bs)) (verdict room (reading bs p)) (E
 
 abbrev pub Judges : List ℕ → ℕ → ℕ → Verdict → ℕ → Type 0
 Judges bs p room r q = (r ≡ judging bs p room) × (q ≡ past r p (1 + tail (reading bs p)))
+
+-- what an N comes to
+abbrev pub verdict_of : Result Start Refusal → Verdict
+verdict_of (Ok u) = Begins u
+verdict_of (Err q) = Refuses q
 
 -- a command that can be read does not end the run
 abbrev pub GoesOn : Verdict → Type 0
@@ -77,17 +83,44 @@ started k m x xs p bytes w = went (trial_begun k m x) p bytes w (finish xs)
 abbrev pub renewed : Start → List Item → ℕ → List ℕ → ℕ → Final
 renewed u xs p bytes w = went (pile_begun u.pile (built u.pile u.stations u.leader)) p bytes w (finish xs)
 
--- the run that ends with f has come to where serving left off
-abbrev pub Arrives : List ℕ → Final → Served → ℕ → List ℕ → Type 0
-Arrives bs f (Ended w q) p bytes = f ≡ record { listing = bytes; consumed = p; written = w; ended = q }
-Arrives bs f (Next w u) p bytes = f ≡ renewed u (script (drop p bs)) p bytes w
+-- THE RUN OF THE CODE
 
--- where a pile is to begin there is room for its line, and a command was passed since the place `from`
-abbrev pub Waits : ℕ → ℕ → Served → ℕ → List ℕ → Type 0
-Waits size from (Ended w q) p bytes = Unit {0}
-Waits size from (Next w u) p bytes = (w + 48 ≤ length bytes) × (from < p) × (p ≤ size)
+-- how many bytes of the listing are free
+abbrev pub room_of : Run → ℕ
+room_of x = length x.listing.bytes.now - x.listing.end
+
+-- what the schedule still holds
+abbrev pub coming : Run → List Item
+coming x = script (drop x.reader.position x.reader.schedule.now)
+
+abbrev pub finishes : Run → Responder → Final
+finishes x st = finish (coming x) x.reader.position x.listing.bytes.now x.listing.end st
+
+abbrev pub starts : Run → Pile → (m : Machine) → m.State → Final
+starts x k m s = started k m s (coming x) x.reader.position x.listing.bytes.now x.listing.end
+
+abbrev pub renews : Run → Start → Final
+renews x u = renewed u (coming x) x.reader.position x.listing.bytes.now x.listing.end
+
+-- it is a run of the same schedule still, and lists to the same memory
+abbrev pub Stays : Run → Run → Type 0
+Stays x y = (y.reader.schedule ≡ x.reader.schedule) × (y.listing.bytes.ghost_name ≡ x.listing.bytes.ghost_name)
+
+-- the run that was to end with f has ended, by q
+abbrev pub HasEnded : Final → Option Refusal → Run → Type 0
+HasEnded f q x = f ≡ record { listing = x.listing.bytes.now; consumed = x.reader.position; written = x.listing.end; ended = q }
+
+-- the run that is to end with f has come to where serving left off
+abbrev pub Arrives : Final → ControlFlow (Option Refusal) Start → Run → Type 0
+Arrives f (Break q) x = HasEnded f q x
+Arrives f (Continue u) x = f ≡ renews x u
+
+-- where a pile is to begin there is room for its line, and a command was passed
+abbrev pub Waits : Run → ControlFlow (Option Refusal) Start → Run → Type 0
+Waits x (Break q) y = Unit {0}
+Waits x (Continue u) y = (48 ≤ room_of y) × (x.reader.position < y.reader.position) × (y.reader.position ≤ length y.reader.schedule.now)
 
 -- how much of a run is left, at the most
-abbrev pub left : ℕ → Served → ℕ → ℕ
-left size (Ended w q) p = 0
-left size (Next w u) p = 1 + (size - p)
+abbrev pub left : ControlFlow (Option Refusal) Start → Run → ℕ
+left (Break q) x = 0
+left (Continue u) x = 1 + (length x.reader.schedule.now - x.reader.position)

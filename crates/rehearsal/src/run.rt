@@ -7,9 +7,7 @@ ghost use Rattle.rehearsal.specs.Piles.{PilesMade};
 ghost use Rattle.rehearsal.specs.Runs.{run_of};
 
 use super::serving::Run;
-use listing::Listing;
 use refusal::Refusal;
-use schedule::reader::Reader;
 
 // The longest schedule that a run takes.
 pub const LONGEST: usize = 4096;
@@ -48,14 +46,6 @@ pub fn run(schedule: &[u8], listing: &mut [u8]) -> Ran
             ended: Some(Refusal::ScheduleTooLong),
         };
     }
-    let mut run = Run {
-        reader: Reader::new(schedule),
-        listing: Listing::new(listing, 0),
-    };
-    let ended = run.finish();
-    Ran {
-        consumed: run.reader.position(),
-        written: run.listing.end(),
-        ended,
-    }
+    let mut run = Run::new(schedule, listing);
+    run.finish()
 }

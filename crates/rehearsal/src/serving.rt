@@ -1,11 +1,12 @@
 ghost use Rattle.std.specs.Prelude.{◌≡◌, ◌≤◌};
 ghost use Rattle.rehearsal.specs.Lines.{answer_line};
 ghost use Rattle.rehearsal.specs.Responders.{in_state, no_trial};
-ghost use Rattle.rehearsal.specs.Serving.{room_of, Stays, Arrives, Waits, finishes, starts, renews, Ends};
+ghost use Rattle.rehearsal.specs.Serving.{room_of, Stays, Arrives, Waits, finishes, starts, renews, HasEnded};
 
 use super::judge::judge;
 use super::piles::on_cells;
 use super::responder::{NoTrial, Responder};
+use super::run::Ran;
 use super::verdict::{Start, Verdict};
 use board::card::CardBoard;
 use collect::Collect;
@@ -37,17 +38,41 @@ pub struct Run<'a> {
 type Served = ControlFlow<Option<Refusal>, Start>;
 
 impl<'a> Run<'a> {
-    // Carries out the schedule, and tells what ended it, if not its end.
-    pub(super) fn finish(&mut self) -> Option<Refusal>
-        ensures ends { Ends (finishes self.old no_trial) result self.new }
+    // At the beginning of the schedule, with nothing listed.
+    pub(super) fn new(schedule: &'a [u8], listing: &'a mut [u8]) -> Run<'a>
+        ensures { (result.reader.schedule ≡ schedule.entry) × (result.reader.position ≡ 0) × (result.listing.bytes ≡ listing.entry) × (result.listing.end ≡ 0) }
+    {
+        Run {
+            reader: Reader::new(schedule),
+            listing: Listing::new(listing, 0),
+        }
+    }
+
+    // Carries out the schedule.
+    pub(super) fn finish(&mut self) -> Ran
+        ensures ends { HasEnded (finishes self.old no_trial) result.ended self.new }
+        ensures memory { self.new.listing.bytes.ghost_name ≡ self.old.listing.bytes.ghost_name }
+        ensures told { (result.consumed ≡ self.new.reader.position) × (result.written ≡ self.new.listing.end) }
         ensures stays { Stays self.old self.new }
     {
         let mut served = self.serve(&mut NoTrial {});
         loop {
             match served {
-                ControlFlow::Break(ended) => return ended,
+                ControlFlow::Break(ended) => return self.ran(ended),
                 ControlFlow::Continue(start) => served = self.renew(start),
             }
+        }
+    }
+
+    // What the run answers, that was ended by a refusal or by the end of its schedule.
+    fn ran(&self, ended: Option<Refusal>) -> Ran
+        ensures { result ≡ record { consumed = self.now.reader.position; written = self.now.listing.end; ended = ended } }
+    {
+        let Run { reader, listing } = self;
+        Ran {
+            consumed: reader.position(),
+            written: listing.end(),
+            ended,
         }
     }
 
