@@ -59,4 +59,5 @@ pub refused_short : (q : Refusal) → length (text (line.Refused q)) ≤ 48
 unfolding line_of text
 refused_short q = simp length-append (omega (arith, three (number_of q) (omega (arith, refusal_short q))))
 
+-- whatever kind of line it is
 pub ruleset short = (pile_short, entered_short, stepped_short, outcome_stepped_short, stopped_short, refused_short)
