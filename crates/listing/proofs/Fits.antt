@@ -4,10 +4,8 @@ use Rattle.std.proofs.lemmas.Fmt.{length-decimal-le}
 use Rattle.refusal.specs.declared.Refusal.{Refusal}
 use Rattle.refusal.specs.Numbers.{number_of}
 use Rattle.deciding.specs.declared.record.Access.{Access}
-use Rattle.deciding.specs.declared.record.Access.TheVariants as access
 use Rattle.deciding.specs.declared.record.Operation.{Operation}
 use Rattle.deciding.specs.declared.record.Outcome.{Outcome}
-use Rattle.deciding.specs.declared.record.Outcome.TheVariants as outcome
 use Rattle.deciding.specs.Laws.{mark}
 use Rattle.schedule.specs.declared.pile.Pile.{Pile as PileName}
 use Rattle.schedule.specs.Piles.{number_of_pile}
@@ -18,21 +16,19 @@ use Rattle.listing.specs.Lines.{access_word, outcome_word, text}
 
 -- the most digits that numbers of one digit, one byte and two bytes have
 one : (n : ℕ) → n < 10 → length (decimal n) ≤ 1
-one n h = length-decimal-le 1 n (omega arith) (omega arith) (omega arith)
+one n h = grind (arith, length-decimal-le 1 n)
 
 three : (n : ℕ) → n < 2 ^ 8 → length (decimal n) ≤ 3
-three n h = length-decimal-le 3 n (omega arith) (omega arith) (omega arith)
+three n h = grind (arith, length-decimal-le 3 n)
 
 five : (n : ℕ) → n < 2 ^ 16 → length (decimal n) ≤ 5
-five n h = length-decimal-le 5 n (omega arith) (omega arith) (omega arith)
+five n h = grind (arith, length-decimal-le 5 n)
 
 access_short : (a : Access) → length (spelled (access_word a)) ≤ 5
-access_short access.Read = omega arith
-access_short access.Write = omega arith
+access_short a = grind arith
 
 outcome_short : (o : Outcome) → length (spelled (outcome_word o)) ≤ 6
-outcome_short (outcome.Adopt u) = omega arith
-outcome_short (outcome.Commit u) = omega arith
+outcome_short o = grind arith
 
 refusal_short : (q : Refusal) → number_of q < 100
 refusal_short q = grind arith
@@ -63,4 +59,5 @@ pub refused_short : (q : Refusal) → length (text (line.Refused q)) ≤ 48
 unfolding line_of text
 refused_short q = simp length-append (omega (arith, three (number_of q) (omega (arith, refusal_short q))))
 
+-- whatever kind of line it is
 pub ruleset short = (pile_short, entered_short, stepped_short, outcome_stepped_short, stopped_short, refused_short)

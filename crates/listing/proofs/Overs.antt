@@ -1,8 +1,7 @@
 -- Bytes put over others, one piece after another.
 use Rattle.std.proofs.Common.{◌≡◌, ℕ, ◌+◌, ◌-◌, ◌≤◌, List, [], ◌++◌, length, take, drop, refl, append_assoc, arith, length-append, length-drop, length-take, take-append-drop}
-use Rattle.std.proofs.lemmas.Slice.{take-put_mid, drop-put_mid}
-use Rattle.std.proofs.lemmas.List.{drop-drop}
-use borrow.Rule.Slice.PartMut.{put_mid}
+use Rattle.std.proofs.lemmas.Slice.{drop-append-drop}
+use Rattle.std.proofs.lemmas.List.{take_at}
 use Rattle.listing.specs.Over.{over}
 
 pub over_none : (bs : List ℕ) (at : ℕ) → over bs at [] ≡ bs
@@ -18,20 +17,17 @@ pub length-over_any : (bs : List ℕ) (at : ℕ) (ds : List ℕ) → at ≤ leng
 unfolding over
 length-over_any bs at ds h = grind (arith, length-append, length-drop, length-take)
 
--- bytes copied into a part of a slice
-pub over_part : (bs : List ℕ) (at k : ℕ) (ys ds : List ℕ) → ys ≡ ds → k ≡ length ds → put_mid at k bs ys ≡ over bs at ds
-unfolding over
-over_part bs at k ys ds e l = grind (arith, drop-drop)
-
 over_is : (bs : List ℕ) (at : ℕ) (ds : List ℕ) → over bs at ds ≡ take at bs ++ (ds ++ drop (at + length ds) bs)
 unfolding over
 over_is bs at ds = refl
 
 take-over : (bs : List ℕ) (at n : ℕ) (ds : List ℕ) → at ≤ length bs → n ≡ at + length ds → take n (over bs at ds) ≡ take at bs ++ ds
-take-over bs at n ds h e = grind (arith, over_part bs at (length ds) ds ds refl refl, take-put_mid)
+unfolding over
+take-over bs at n ds h e = grind (arith, take_at (take at bs ++ ds), append_assoc, length-append, length-take)
 
 drop-over : (bs : List ℕ) (at n : ℕ) (ds : List ℕ) → at ≤ length bs → at + length ds ≤ n → drop n (over bs at ds) ≡ drop n bs
-drop-over bs at n ds h e = grind (arith, over_part bs at (length ds) ds ds refl refl, drop-put_mid)
+unfolding over
+drop-over bs at n ds h e = grind (arith, drop-append-drop (at + length ds) bs (take at bs ++ ds) n e, append_assoc, length-append, length-take)
 
 -- one piece after another
 pub over_append : (bs : List ℕ) (at : ℕ) (a b : List ℕ) → at ≤ length bs → over (over bs at a) (at + length a) b ≡ over bs at (a ++ b)

@@ -127,6 +127,7 @@ impl<'a> Listing<'a> {
     }
 
     // Single spaces between the words, and 0Ah after the last.
+    #[tactic(auto, using(crate::proofs::Extends::line_long))]
     fn put_words(&mut self, words: &[Word])
         requires { self.old.end + length (line_of words.now) ≤ length self.old.bytes.now }
         ensures extends { Extends self.old.bytes.now self.old.end (line_of words.now)
@@ -166,6 +167,7 @@ impl<'a> Listing<'a> {
         }
     }
 
+    #[tactic(auto, unfolding(crate::specs::Over::over))]
     fn put_bytes(&mut self, bytes: &[u8])
         requires { self.old.end + length bytes.now ≤ length self.old.bytes.now }
         ensures extends { Extends self.old.bytes.now self.old.end bytes.now self.new.end self.new.bytes.now }

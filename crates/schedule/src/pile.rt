@@ -28,7 +28,7 @@ impl From<Pile> for u8 {
 impl TryFrom<u8> for Pile {
     type Error = Refusal;
 
-    ghost try_from_gives = { λ number pile. (pile ≡ pile_numbered number) × Names number pile };
+    ghost try_from_gives = { λ number named. (named ≡ pile_numbered number) × Names number named };
 
     fn try_from(number: u8) -> Result<Pile, Refusal> {
         match number {
