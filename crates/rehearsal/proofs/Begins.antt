@@ -14,14 +14,13 @@ use Rattle.schedule.specs.Script.{Item}
 use Rattle.trial.specs.Perform.{TrialState}
 use Rattle.trial.specs.Trials.{new_trial}
 use Rattle.rehearsal.specs.declared.verdict.Start.{Start}
-use Rattle.rehearsal.specs.declared.serving.Run.{Run}
 use Rattle.rehearsal.specs.Lines.{pile_line}
 use Rattle.sequence.specs.Joint.{Pair}
 use Rattle.sequence.specs.Making.{sequence_made}
 use Rattle.rehearsal.specs.Piles.{Built, built, in_sequence}
 use Rattle.rehearsal.specs.Responders.{trial_in}
 use Rattle.rehearsal.specs.Runs.{pile_begun}
-use Rattle.rehearsal.specs.Serving.{Final, finish, went, started, coming, starts, renews, Arrives}
+use Rattle.rehearsal.specs.Serving.{Run, Final, finish, went, started, coming, starts, renews, Arrives}
 
 -- the line of the trial t, which is a new one, was written
 pub begins_at : (m : Machine) (xs : List Item) (p : ℕ) (bytes : List ℕ) (at : ℕ) (k : Pile) (x : m.State) (t : TrialState (Refusable m.State)) (n l r : ℕ) (after : List ℕ) (w : ℕ) →

@@ -1,7 +1,7 @@
 -- The law of listings, of every run: line by line, by what its command was judged to be.
-use Rattle.std.proofs.Common.{◌≡◌, ◌≢◌, ℕ, zero, suc, ◌+◌, ◌<◌, ◌≤◌, Bool, true, false, eqb, ltb, leb, List, [], ◌∷◌, ◌++◌, length, get_or, take, Some, None, Ok, Err, Option, Result, sym, refl, ap, ◌∙◌, subst, inl, inr, arith}
+use Rattle.std.proofs.Common.{◌≡◌, ℕ, zero, suc, ◌+◌, ◌<◌, ◌≤◌, Bool, true, false, eqb, ltb, leb, List, [], ◌∷◌, ◌++◌, length, get_or, take, Some, None, Ok, Err, Option, Result, sym, refl, ap, ◌∙◌, subst, inl, inr, arith}
 use Rattle.std.proofs.lemmas.List.{get_or-take}
-use Rattle.std.proofs.lemmas.Bool.{cond_both, and_parts, leb-true, le-leb, ltb-true, ltb-false, eqb-true, eq-eqb, true≢false}
+use Rattle.std.proofs.lemmas.Bool.{cond_both, and_parts, leb-true, le-leb, ltb-true, ltb-false, true≢false}
 use Rattle.refusal.specs.declared.Refusal.{Refusal}
 use Rattle.refusal.specs.declared.Refusal.TheVariants.{ListingFull, NoPile}
 use Rattle.deciding.specs.Laws.{marks}
@@ -11,8 +11,8 @@ use Rattle.deciding.specs.Sizes.{one_to_sixteen}
 use Rattle.listing.specs.declared.line.Line.{Line}
 use Rattle.listing.specs.declared.line.Line.TheVariants as line
 use Rattle.schedule.specs.declared.pile.Pile.{Pile}
-use Rattle.schedule.specs.declared.pile.Pile.TheVariants as name
-use Rattle.schedule.specs.Piles.{number_of_pile, pile_numbered, Names}
+use Rattle.schedule.proofs.Numbers.{numbered_names}
+use Rattle.schedule.specs.Piles.{pile_numbered, Names}
 use Rattle.schedule.specs.Script as script
 use Rattle.schedule.specs.Script.{Kind, Item, command, broken, operands, with_operands, item, tail, items, script}
 use Rattle.trial.specs.declared.call.Call.{Call}
@@ -45,24 +45,6 @@ JudgedAs x (Refuses q) = (call_of x ≡ None) × TurnsDown x q
 JudgedAs x (Begins u) = AsksFor x u.pile u.stations × (one_to_sixteen u.stations ≡ true) × (ltb u.leader u.stations ≡ true)
 JudgedAs x (Asks c) = call_of x ≡ Some c
 
-unknown : (n : ℕ) → eqb n 1 ≡ false → eqb n 2 ≡ false → eqb n 3 ≡ false → eqb n 4 ≡ false → eqb n 5 ≡ false → eqb n 6 ≡ false → (p : Pile) → number_of_pile p ≢ n
-unknown n a b c d e f name.Collect h = true≢false (sym (eq-eqb n 1 (sym h)) ∙ a)
-unknown n a b c d e f name.Quorum h = true≢false (sym (eq-eqb n 2 (sym h)) ∙ b)
-unknown n a b c d e f name.CoinCollect h = true≢false (sym (eq-eqb n 3 (sym h)) ∙ c)
-unknown n a b c d e f name.LeaderQuorum h = true≢false (sym (eq-eqb n 4 (sym h)) ∙ d)
-unknown n a b c d e f name.CollectCoinQuorum h = true≢false (sym (eq-eqb n 5 (sym h)) ∙ e)
-unknown n a b c d e f name.QuorumLeaderCoinCollect h = true≢false (sym (eq-eqb n 6 (sym h)) ∙ f)
-
-names : (n : ℕ) → Names n (pile_numbered n)
-names n =
-    let named : (k : ℕ) → eqb n k ≡ true → k ≡ n = λ k h. sym (eqb-true n k h) in
-    cond_both (eqb n 1) _ _ (Names n) (named 1)
-    (λ a. cond_both (eqb n 2) _ _ (Names n) (named 2)
-    (λ b. cond_both (eqb n 3) _ _ (Names n) (named 3)
-    (λ c. cond_both (eqb n 4) _ _ (Names n) (named 4)
-    (λ d. cond_both (eqb n 5) _ _ (Names n) (named 5)
-    (λ e. cond_both (eqb n 6) _ _ (Names n) (named 6) (λ f. (unknown n a b c d e f, refl)))))))
-
 in_size : (n : ℕ) → 1 ≤ n → n ≤ 16 → one_to_sixteen n ≡ true
 in_size n some few = rw (le-leb 1 n some, le-leb n 16 few) refl
 
@@ -83,7 +65,7 @@ start_judged ops (Ok p) h =
 
 item_judged : (x : Item) → JudgedAs x (item_verdict x)
 item_judged (broken q) = (refl, refl)
-item_judged (command script.new ops) = start_judged ops (pile_numbered (get_or ops 0 0)) (names (get_or ops 0 0))
+item_judged (command script.new ops) = start_judged ops (pile_numbered (get_or ops 0 0)) (numbered_names (get_or ops 0 0))
 item_judged (command script.enter ops) = refl
 item_judged (command script.step ops) = refl
 item_judged (command script.stop ops) = refl

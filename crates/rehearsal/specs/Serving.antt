@@ -4,15 +4,16 @@ use Rattle.std.specs.declared.ops.ControlFlow.{ControlFlow}
 use Rattle.std.specs.declared.ops.ControlFlow.TheVariants.{Break, Continue}
 use Rattle.refusal.specs.declared.Refusal.{Refusal}
 use Rattle.deciding.specs.Machine.{Machine}
+use Rattle.listing.specs.declared.Listing.{Listing}
 use Rattle.listing.specs.Over.{over}
 use Rattle.listing.specs.Lines.{text}
 use Rattle.schedule.specs.declared.pile.Pile.{Pile}
+use Rattle.schedule.specs.declared.reader.Reader.{Reader}
 use Rattle.schedule.specs.Script.{Item, script, tail}
 use Rattle.schedule.specs.Reading.{reading}
 use Rattle.rehearsal.specs.declared.verdict.Start.{Start}
 use Rattle.rehearsal.specs.declared.verdict.Verdict.{Verdict}
 use Rattle.rehearsal.specs.declared.verdict.Verdict.TheVariants.{Ends, Halts, Refuses, Begins, Asks}
-use Rattle.rehearsal.specs.declared.serving.Run.{Run}
 use Rattle.rehearsal.specs.Lines.{listed}
 use Rattle.rehearsal.specs.Piles.{built}
 use Rattle.rehearsal.specs.Responders.{Responder}
@@ -85,9 +86,17 @@ renewed u xs p bytes w = went (pile_begun u.pile (built u.pile u.stations u.lead
 
 -- THE RUN OF THE CODE
 
+-- a run on its way: where it stands in its schedule, and its listing so far
+pub record Run : Type 0 where
+  pub reader : Reader
+  pub listing : Listing
+
+abbrev pub run_at : Reader → Listing → Run
+run_at r l = record { reader = r; listing = l }
+
 -- how many bytes of the listing are free
-abbrev pub room_of : Run → ℕ
-room_of x = length x.listing.bytes.now - x.listing.end
+abbrev pub room_of : Listing → ℕ
+room_of l = length l.bytes.now - l.end
 
 -- what the schedule still holds
 abbrev pub coming : Run → List Item
@@ -118,7 +127,7 @@ Arrives f (Continue u) x = f ≡ renews x u
 -- where a pile is to begin there is room for its line, and a command was passed
 abbrev pub Waits : Run → ControlFlow (Option Refusal) Start → Run → Type 0
 Waits x (Break q) y = Unit {0}
-Waits x (Continue u) y = (48 ≤ room_of y) × (x.reader.position < y.reader.position) × (y.reader.position ≤ length y.reader.schedule.now)
+Waits x (Continue u) y = (48 ≤ room_of y.listing) × (x.reader.position < y.reader.position) × (y.reader.position ≤ length y.reader.schedule.now)
 
 -- how much of a run is left, at the most
 abbrev pub left : ControlFlow (Option Refusal) Start → Run → ℕ

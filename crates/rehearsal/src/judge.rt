@@ -1,7 +1,7 @@
-ghost use Rattle.std.specs.Prelude.{◌≡◌, ◌-◌, length, slice_index};
+ghost use Rattle.std.specs.Prelude.{◌≡◌, length, slice_index};
 ghost use Rattle.schedule.specs.Reading.{item_of};
 ghost use Rattle.rehearsal.specs.Runs.{new_verdict, item_verdict};
-ghost use Rattle.rehearsal.specs.Serving.{Judges, Moves, GoesOn, verdict_of};
+ghost use Rattle.rehearsal.specs.Serving.{GoesOn, Judges, Moves, room_of, verdict_of};
 
 use super::verdict::{Start, Verdict};
 use deciding::questions::one_to_sixteen;
@@ -14,9 +14,9 @@ use trial::call::Call;
 
 // Reads the next command and asks of it what can be asked before a trial is.
 pub(super) fn judge(reader: &mut Reader, listing: &Listing) -> Verdict
-    ensures judges { Judges reader.old.schedule.now reader.old.position (length listing.now.bytes.now - listing.now.end) result reader.new.position }
+    ensures judges { Judges reader.old.schedule.now reader.old.position (room_of listing.now) result reader.new.position }
     ensures same { reader.new.schedule ≡ reader.old.schedule }
-    ensures moves { Moves (length reader.old.schedule.now) (length listing.now.bytes.now - listing.now.end) reader.old.position result reader.new.position }
+    ensures moves { Moves (length reader.old.schedule.now) (room_of listing.now) reader.old.position result reader.new.position }
 {
     if reader.is_done() {
         return Verdict::Ends(None);

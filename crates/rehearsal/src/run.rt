@@ -6,8 +6,10 @@ ghost use Rattle.rehearsal.specs.Listings.{LawfulRun};
 ghost use Rattle.rehearsal.specs.Piles.{PilesMade};
 ghost use Rattle.rehearsal.specs.Runs.{run_of};
 
-use super::serving::Run;
+use super::serving::finish;
+use listing::Listing;
 use refusal::Refusal;
+use schedule::reader::Reader;
 
 // The longest schedule that a run takes.
 pub const LONGEST: usize = 4096;
@@ -46,6 +48,12 @@ pub fn run(schedule: &[u8], listing: &mut [u8]) -> Ran
             ended: Some(Refusal::ScheduleTooLong),
         };
     }
-    let mut run = Run::new(schedule, listing);
-    run.finish()
+    let mut reader = Reader::new(schedule);
+    let mut listing = Listing::new(listing, 0);
+    let ended = finish(&mut reader, &mut listing);
+    Ran {
+        consumed: reader.position(),
+        written: listing.end(),
+        ended,
+    }
 }

@@ -6,7 +6,7 @@ use machine::machine::StepMachine;
 use refusal::Refusal;
 use std::test::Fail;
 use trial::Trial;
-use trial::call::{Answer, Call};
+use trial::call::{Call, Effect};
 use trial::rehearsal::rehearse;
 
 // Station 1 proposes 7 and is stopped after its first step, station 0 proposes 9 and comes to its outcome, and calls are
@@ -76,12 +76,12 @@ fn a_list_of_calls(rt: HostRuntime) -> Result<(), Fail> {
         println!(rt; "{call:?} gives {answer:?}")?;
     }
     assert!(rt; answers.len() == 15);
-    assert_eq!(rt; answers[0], Answer::Refused(Refusal::NotEntered));
-    assert_eq!(rt; answers[1], Answer::Entered);
-    assert_eq!(rt; answers[2], Answer::Refused(Refusal::AlreadyEntered));
-    assert_eq!(rt; answers[4], Answer::Stopped);
-    assert_eq!(rt; answers[5], Answer::Refused(Refusal::Stopped));
-    assert_eq!(rt; answers[13], Answer::Refused(Refusal::NoSuchStation));
+    assert_eq!(rt; answers[0], Err(Refusal::NotEntered));
+    assert_eq!(rt; answers[1], Ok(Effect::Entered));
+    assert_eq!(rt; answers[2], Err(Refusal::AlreadyEntered));
+    assert_eq!(rt; answers[4], Ok(Effect::Stopped));
+    assert_eq!(rt; answers[5], Err(Refusal::Stopped));
+    assert_eq!(rt; answers[13], Err(Refusal::NoSuchStation));
     assert_eq!(rt;
         trial.record(1),
         Record::UnderWay {

@@ -1,15 +1,16 @@
 use board::cell::CellBoard;
 use collect::Collect;
 use deciding::object::DecidingObject;
+use deciding::refusable::Refusable;
 use machine::machine::StepMachine;
 use machine::protocol::Protocol;
 use refusal::Refusal;
 use sequence::Sequence;
 use waiting::Waiting;
 
-type CollectPart = StepMachine<Collect, CellBoard>;
+type Part<P> = Refusable<StepMachine<P, CellBoard>>;
 
-fn collect_part(stations: u8) -> CollectPart {
+fn collect_part(stations: u8) -> Part<Collect> {
     StepMachine::new(Collect { stations }, CellBoard::new())
 }
 
@@ -30,7 +31,7 @@ fn all_records_of_the_parts_are_away(rt: HostRuntime) {
     assert_eq!(rt; joined.refused(), Some(Refusal::NotAllAway));
 }
 
-fn waiting_part(limit: u16) -> StepMachine<Waiting, CellBoard> {
+fn waiting_part(limit: u16) -> Part<Waiting> {
     StepMachine::new(
         Waiting {
             stations: 1,

@@ -2,7 +2,7 @@ use Rattle.std.proofs.Common.{List, ℕ, Bor, ap, ◌∙◌, arith}
 use Rattle.rehearsal.specs.declared.verdict.Verdict.TheVariants.{Begins}
 use Rattle.rehearsal.specs.Responders.{in_state}
 use Rattle.rehearsal.proofs.Turns.{on, on_ends, on_halts, on_refuses, on_asks, put_stands}
-use Rattle.rehearsal.proofs.serving.Run.serve.Goals as goal
+use Rattle.rehearsal.proofs.serving.serve.Goals as goal
 
 pub returns-in-Ends-clause-arrives : goal.returns-in-Ends-clause-arrives
 returns-in-Ends-clause-arrives g c sound =
