@@ -9,6 +9,8 @@ use Rattle.deciding.specs.Sizes.{Sized}
 -- than an invariant has to: it is kept by both calls, and the rest is owed of every state where it holds.
 pub record Deciding (m : Machine) : Type 1 where
   pub Reached : m.State → Type 0
+  -- two proofs of it are one, so that a struct can keep it
+  pub reached_prop : (x : m.State) → IsProp (Reached x)
   pub enter_reached : (x : m.State) (s v : ℕ) → Reached x → Enters m x s v → Reached (m.enter x s v)
   pub step_reached : (x : m.State) (s c v k : ℕ) → Reached x → Steps m x s v k → Reached (m.step x s c).next
   -- a call changes the record of its station only: by an enter it is under way with no step, by a step it has one step more

@@ -1,6 +1,10 @@
 -- The four laws of deciding objects, in terms of the records of their stations.
-use Rattle.std.specs.Prelude.{◌≡◌, ℕ, ◌+◌, ◌<◌, ◌≤◌, Bool, true, false, Some, None, Option}
-use Rattle.std.proofs.Common.{arith}
+use Rattle.std.specs.Prelude.{◌≡◌, ℕ, ◌+◌, ◌<◌, ◌≤◌, Bool, true, false, Some, None, Option, ◌⊎◌, zero, suc}
+use Rattle.std.proofs.Common.{arith, inl, inr, ⊎_elim}
+use Rattle.std.proofs.Math.Logic.{∥∥₁_elim}
+use Rattle.std.proofs.Props.{props}
+use Rattle.std.proofs.lemmas.Bool.{cases_eq, cases_lt}
+use Rattle.std.specs.Coded.{le_prop, Coded-set, coded_ℕ}
 use Rattle.deciding.specs.declared.record.Outcome.{Outcome}
 use Rattle.deciding.specs.declared.record.Outcome.TheVariants.{Adopt, Commit}
 use Rattle.deciding.specs.declared.record.Record.{Record}
@@ -57,4 +61,49 @@ away_laws ratifying = record {
   bounded_end = λ s v k o e. let z : ◌≡◌ {A = ℕ} 0 1 = cc in absurd (omega arith);
   ratifies = λ e v same s o h. absurd h;
   never = λ e s o h. absurd h;
+}
+
+-- THE LAWS, where they merely hold: each says one thing, but validity, whose station is found among the first n
+
+pub record_prop : (a b : Record) → IsProp (a ≡ b)
+record_prop a b = hlevel props
+
+outcome_prop : (a b : Outcome) → IsProp (a ≡ b)
+outcome_prop a b = hlevel props
+
+proposes_or : (r : Record) (v : ℕ) → Proposes r v ⊎ (Proposes r v → ⊥)
+proposes_or Away v = inr (λ h. h)
+proposes_or (UnderWay p k) v = cases_eq p v
+proposes_or (Answered p k o) v = cases_eq p v
+
+module _ (f : ℕ → Record) (v : ℕ) where
+  proposer : (n : ℕ) → ((t : ℕ) × Proposes (f t) v) ⊎ ((t : ℕ) → t < n → Proposes (f t) v → ⊥)
+  proposer zero = inr (λ t l h. absurd (omega (arith, l)))
+  proposer (suc n) = ⊎_elim
+      (λ (h : Proposes (f n) v). inl (n, h))
+      (λ (no : Proposes (f n) v → ⊥). ⊎_elim inl
+      (λ (none : (t : ℕ) → t < n → Proposes (f t) v → ⊥). inr (λ t l h. ⊎_elim
+      (λ (e : t ≡ n). no (rw e at h))
+      (λ (e : t ≡ n → ⊥). none t (omega (arith, l, e)) h)
+      (cases_eq t n)))
+      (proposer n))
+      (proposes_or (f n) v)
+
+  found : (n : ℕ) → ((t : ℕ) → n ≤ t → f t ≡ Away) → ∥ ((t : ℕ) × Proposes (f t) v) ∥₁ → (t : ℕ) × Proposes (f t) v
+  found n away some = ⊎_elim (λ h. h)
+      (λ (none : (t : ℕ) → t < n → Proposes (f t) v → ⊥). absurd (∥∥₁_elim some (λ a b. absurd a) (λ h. ⊎_elim
+      (λ (l : h.0 < n). none h.0 l h.1)
+      (λ (l : n ≤ h.0). let is = away h.0 l in rw is at h.1)
+      (cases_lt h.0 n))))
+      (proposer n)
+
+pub laws_found : (limit : ℕ) (ratifying : Bool) (f : ℕ → Record) (n : ℕ) → ((t : ℕ) → n ≤ t → f t ≡ Away) → ∥ Laws limit ratifying f ∥₁ → Laws limit ratifying f
+laws_found limit ratifying f n away merely = record {
+  small = λ s v h. ∥∥₁_elim merely le_prop (λ l. l.small s v h);
+  valid = λ s o h. found f (mark o) n away (∥∥₁_elim merely squash₁ (λ l. ∣ l.valid s o h ∣₁));
+  coherent = λ s t u o h k. ∥∥₁_elim merely (Coded-set coded_ℕ _ _) (λ l. l.coherent s t u o h k);
+  bounded = λ s v k e. ∥∥₁_elim merely le_prop (λ l. l.bounded s v k e);
+  bounded_end = λ s v k o e. (∥∥₁_elim merely le_prop (λ l. (l.bounded_end s v k o e).0), ∥∥₁_elim merely le_prop (λ l. (l.bounded_end s v k o e).1));
+  ratifies = λ e v same s o h. ∥∥₁_elim merely (outcome_prop _ _) (λ l. l.ratifies e v same s o h);
+  never = λ e s o h. ∥∥₁_elim merely (outcome_prop _ _) (λ l. l.never e s o h);
 }

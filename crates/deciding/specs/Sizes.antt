@@ -1,6 +1,7 @@
 -- How large an object may be: 1 to 16 stations, and 1 to 1,000 for its limit and its registers.
 -- One whose making was refused is nothing at all.
 use Rattle.std.specs.Prelude.{◌≡◌, ℕ, ◌≤◌, Bool, false, ◌&&◌, Some, None, Option, nat_le}
+use Rattle.std.proofs.Props.{props}
 use Rattle.refusal.specs.declared.Refusal.{Refusal}
 
 abbrev pub one_to_sixteen : ℕ → Bool
@@ -23,3 +24,6 @@ pub record Nothing (stations limit registers : ℕ) (ratifying : Bool) : Type 0 
 pub record Sized (refused : Option Refusal) (stations limit registers : ℕ) (ratifying : Bool) : Type 0 where
   pub made : refused ≡ None → Sizes stations limit registers
   pub unmade : (r : Refusal) → refused ≡ Some r → Nothing stations limit registers ratifying
+
+pub sizes_prop : (n k r : ℕ) → IsProp (Sizes n k r)
+sizes_prop n k r = hlevel props

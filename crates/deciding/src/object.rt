@@ -21,32 +21,35 @@ pub trait DecidingObject {
 
     // How many stations there are: 1 to 16, or 0 where the making was refused.
     fn stations(&self) -> u8
-        ensures { deciding.Reached (state self.now) → result ≡ machine.stations (state self.now) };
+        ensures { result ≡ machine.stations (state self.now) };
 
     // How many steps a station takes at the most.
     fn limit(&self) -> u16
-        ensures { deciding.Reached (state self.now) → result ≡ machine.limit (state self.now) };
+        ensures { result ≡ machine.limit (state self.now) };
 
     fn registers(&self) -> u16
-        ensures { deciding.Reached (state self.now) → result ≡ machine.registers (state self.now) };
+        ensures { result ≡ machine.registers (state self.now) };
 
     // Whether it commits when all proposals are equal; one that is not ratifying never commits.
     fn ratifying(&self) -> bool
-        ensures { deciding.Reached (state self.now) → result ≡ machine.ratifying (state self.now) };
+        ensures { result ≡ machine.ratifying (state self.now) };
 
     // Why its making was refused, if it was.
     fn refused(&self) -> Option<Refusal>
-        ensures { deciding.Reached (state self.now) → result ≡ machine.refused (state self.now) };
+        ensures { result ≡ machine.refused (state self.now) };
 
     // The record of a station; that of a number that is no station is away.
     fn record(&self, station: u8) -> Record
-        ensures { deciding.Reached (state self.now) → result ≡ machine.record_of (state self.now) station };
+        ensures { result ≡ machine.record_of (state self.now) station };
 
     // The station proposes the mark. No register operation.
     fn enter(&mut self, station: u8, mark: u8) -> Result<(), Refusal>
-        ensures { deciding.Reached (state self.old) → Entering machine (state self.old) station mark result (state self.new) × deciding.Reached (state self.new) };
+        ensures { Entering machine (state self.old) station mark result (state self.new) };
 
     // The station makes its next register operation, with a coin of 0 to 255 thrown for it.
     fn step(&mut self, station: u8, coin: u8) -> Result<(Operation, Option<Outcome>), Refusal>
-        ensures { deciding.Reached (state self.old) → Stepping machine (state self.old) station coin result (state self.new) × deciding.Reached (state self.new) };
+        ensures { Stepping machine (state self.old) station coin result (state self.new) };
+
+    // Every value began new and was changed by enter and step only.
+    ghost reached: { (x : Self) → deciding.Reached (state x) };
 }

@@ -13,7 +13,7 @@ pub fn one_to_sixteen(stations: u8) -> bool
 
 // Are the records of all sixteen stations away?
 pub fn all_away<D: DecidingObject>(object: &D) -> bool
-    ensures { D.DecidingObject.deciding.Reached (D.DecidingObject.state object.now) → result ≡ all_away (D.DecidingObject.machine.record_of (D.DecidingObject.state object.now)) 16 }
+    ensures { result ≡ all_away (D.DecidingObject.machine.record_of (D.DecidingObject.state object.now)) 16 }
 {
     (0..16).all(|station| object.record(station).is_away())
 }

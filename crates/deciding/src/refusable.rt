@@ -1,95 +1,87 @@
 ghost use Rattle.std.specs.Prelude.{◌≡◌};
-ghost use Rattle.deciding.specs.Refusable.{granted, refusable, refusable_deciding, with_refusal};
+ghost use Rattle.deciding.specs.Refusable.{all_reached, refusable, refusable_deciding, state_made};
 
 use super::object::DecidingObject;
 use super::record::{Operation, Outcome, Record};
 use refusal::Refusal;
 
-// An object whose making asks questions, with the first of them that was answered no, if one was: the making is then
-// refused, and there are no stations and nothing to show. The object is kept all the same, with what was given to its making.
+// What a making leaves that asks questions: the object, or the first question that was answered no together with what was given
+// to the making. A refused one has no stations, and nothing to show.
 #[derive(Drop)]
-pub struct Refusable<T> {
-    inner: T,
-    refused: Option<Refusal>,
+pub struct Refusable<T, G> {
+    made: Result<T, (Refusal, G)>,
 }
 
-impl<T> Refusable<T> {
-    // The object, and what came of asking the questions of its making.
-    pub fn new(inner: T, asked: Result<(), Refusal>) -> Refusable<T>
-        ensures inner { result.inner ≡ inner }
-        ensures refused { granted result.refused ≡ asked }
+impl<T, G> Refusable<T, G> {
+    pub fn new(made: Result<T, (Refusal, G)>) -> Refusable<T, G>
+        ensures { result.made ≡ made }
     {
-        Refusable {
-            inner,
-            refused: asked.err(),
-        }
-    }
-
-    // Why the making was refused, if it was.
-    pub fn refusal(&self) -> Option<Refusal>
-        ensures { result ≡ self.now.refused }
-    {
-        self.refused
+        Refusable { made }
     }
 }
 
-impl<T: DecidingObject> DecidingObject for Refusable<T> {
+impl<T: DecidingObject, G> DecidingObject for Refusable<T, G> {
     ghost machine = { refusable T.machine };
 
     ghost deciding = { refusable_deciding T.machine T.deciding };
 
-    ghost state = { λ x. with_refusal (T.state x.inner) x.refused };
+    ghost state = { λ x. state_made T.state x.made };
+
+    ghost reached = { λ x. all_reached T.machine T.deciding T.state T.reached x.made };
 
     fn stations(&self) -> u8 {
-        match self.refused {
-            None => self.inner.stations(),
-            Some(_) => 0,
+        match &self.made {
+            Ok(object) => object.stations(),
+            Err(_) => 0,
         }
     }
 
     fn limit(&self) -> u16 {
-        match self.refused {
-            None => self.inner.limit(),
-            Some(_) => 0,
+        match &self.made {
+            Ok(object) => object.limit(),
+            Err(_) => 0,
         }
     }
 
     fn registers(&self) -> u16 {
-        match self.refused {
-            None => self.inner.registers(),
-            Some(_) => 0,
+        match &self.made {
+            Ok(object) => object.registers(),
+            Err(_) => 0,
         }
     }
 
     fn ratifying(&self) -> bool {
-        match self.refused {
-            None => self.inner.ratifying(),
-            Some(_) => false,
+        match &self.made {
+            Ok(object) => object.ratifying(),
+            Err(_) => false,
         }
     }
 
     fn refused(&self) -> Option<Refusal> {
-        self.refusal()
+        match &self.made {
+            Ok(object) => object.refused(),
+            Err((refusal, _)) => Some(*refusal),
+        }
     }
 
     fn record(&self, station: u8) -> Record {
-        match self.refused {
-            None => self.inner.record(station),
-            Some(_) => Record::Away,
+        match &self.made {
+            Ok(object) => object.record(station),
+            Err(_) => Record::Away,
         }
     }
 
     fn enter(&mut self, station: u8, mark: u8) -> Result<(), Refusal> {
-        match self.refused {
-            None => self.inner.enter(station, mark),
-            Some(_) => Err(Refusal::NoSuchStation),
+        match &mut self.made {
+            Ok(object) => object.enter(station, mark),
+            Err(_) => Err(Refusal::NoSuchStation),
         }
     }
 
     fn step(&mut self, station: u8, coin: u8) -> Result<(Operation, Option<Outcome>), Refusal> {
-        match self.refused {
-            None => self.inner.step(station, coin),
-            Some(_) => Err(Refusal::NoSuchStation),
+        match &mut self.made {
+            Ok(object) => object.step(station, coin),
+            Err(_) => Err(Refusal::NoSuchStation),
         }
     }
 }

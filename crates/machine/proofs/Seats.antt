@@ -1,6 +1,9 @@
 -- A call of a station that is one, by what its row is.
 use Rattle.std.proofs.Common.{◌≡◌, ℕ, zero, suc, ◌<◌, true, ◌&&◌, ltb, List, [], ◌∷◌, length, get_or, set, Ok, Option, refl, ap, ◌∙◌, subst, sym, arith}
+use Rattle.std.proofs.Math.Logic.{∥∥₁_elim}
+use Rattle.std.proofs.Props.{props}
 use Rattle.std.proofs.lemmas.Bool.{ltb-true, and_parts}
+use Rattle.std.specs.Coded.{le_prop, ×_prop}
 use Rattle.deciding.specs.declared.record.Operation.{Operation}
 use Rattle.deciding.specs.declared.record.Outcome.{Outcome}
 use Rattle.deciding.specs.Laws.{marks}
@@ -9,7 +12,7 @@ use Rattle.machine.specs.declared.status.Status.{Status}
 use Rattle.machine.specs.declared.status.Status.TheVariants.{Absent, Running}
 use Rattle.machine.specs.declared.status.Plan.{Plan}
 use Rattle.machine.specs.declared.status.Plan.TheVariants.{Read, Write}
-use Rattle.machine.specs.Protocol.{Protocol, Running', shown, running, register_of, content_of, contents_after, operation_of, step_from, machine_of}
+use Rattle.machine.specs.Protocol.{Protocol, Running', shown, running, register_of, content_of, contents_after, operation_of, outcome_of, status_after, step_from, machine_of}
 use Rattle.machine.specs.Kept.{Kept}
 use Rattle.machine.specs.Rows.{Advances}
 use Rattle.machine.specs.Frame.{Good, running_deciding, running_good}
@@ -23,10 +26,16 @@ operation_content : (xs : List ℕ) (plan : Plan) → (operation_of xs plan).con
 operation_content xs (Read i) = refl
 operation_content xs (Write i w) = refl
 
+outcomes_prop : (a b : Option Outcome) → IsProp (a ≡ b)
+outcomes_prop a b = hlevel props
+
+status_prop : {Phase : Type 0} → IsSet Phase → (a b : Status Phase) → IsProp (a ≡ b)
+status_prop phases a b = hlevel (props, phases)
+
 module _ {Setup Phase : Type 0} (p : Protocol Setup Phase) {Meets : Phase → ℕ → Type 0} (kept : Kept p Meets)
     (x : Running' Setup Phase) (reached : (running_deciding p kept).Reached x) (s : ℕ) (seated : (ltb s (p.stations x.setup) && ltb s 16) ≡ true) where
-  good : Good p kept x
-  good = running_good p kept x reached
+  merely : ∥ Good p kept x ∥₁
+  merely = running_good p kept x reached
 
   seat : ltb s (p.stations x.setup) ≡ true
   seat = (and_parts _ _ seated).0
@@ -47,30 +56,35 @@ module _ {Setup Phase : Type 0} (p : Protocol Setup Phase) {Meets : Phase → �
   module _ (c v k : ℕ) (ph : Phase) (is : get_or x.table s Absent ≡ Running v k ph) where
     -- its register is there
     pub register_there : register_of (p.plan x.setup s v ph) < length x.contents
-    register_there = omega (arith, good.fitting.room, kept.below _ _ _ s v k ph good.inv below is)
+    register_there = ∥∥₁_elim merely le_prop (λ good. omega (arith, good.fitting.room, kept.below _ _ _ s v k ph good.inv below is))
 
     steps_few : k < 1000
-    steps_few =
+    steps_few = ∥∥₁_elim merely le_prop (λ good.
         let laws = kept.gives _ _ _ good.fitting good.past good.inv in
-        omega (arith, laws.bounded s v k (ap shown is), kept.within x.setup good.some good.fitting.few)
+        omega (arith, laws.bounded s v k (ap shown is), kept.within x.setup good.some good.fitting.few))
+
+    in_table : s < length x.table
+    in_table = ∥∥₁_elim merely le_prop (λ good. omega (arith, good.fitting.rows, good.fitting.few, below))
 
     -- the row that is lent is the station's
     lent_is : (i : ℕ) (d : Status Phase) → i ≡ s → get_or x.table i d ≡ Running v k ph
     lent_is i d same =
-        get_or-any x.table i d Absent (omega (arith, good.fitting.rows, good.fitting.few, below)) ∙ ap (λ (j : ℕ). get_or x.table j Absent) same ∙ is
+        get_or-any x.table i d Absent (omega (arith, in_table)) ∙ ap (λ (j : ℕ). get_or x.table j Absent) same ∙ is
 
     stepping_on : stepping (machine_of p) x s c ≡ (let n = step_from p x s c v k ph in record { answer = Ok (n.operation, n.outcome); state = n.next })
     stepping_on = rw (seat, is) refl
 
-    pub steps_on : (plan : Plan) (op : Operation) (ys : List ℕ) (i : ℕ) (d : Status Phase) (outcome : Option Outcome) (row : Status Phase) → plan ≡ p.plan x.setup s v ph →
+    pub steps_on : IsSet Phase → (plan : Plan) (op : Operation) (ys : List ℕ) (i : ℕ) (d : Status Phase) (outcome : Option Outcome) (row : Status Phase) → plan ≡ p.plan x.setup s v ph →
         op ≡ operation_of x.contents plan → ys ≡ contents_after x.contents plan →
         i ≡ s → Advances p Meets x.setup s op.content c (get_or x.table i d) outcome row →
         let y = running x.setup ys (set x.table i row) in Stepping (machine_of p) x s c (Ok (op, outcome)) y × (running_deciding p kept).Reached y
-    steps_on plan op ys i d outcome row planned oped left same advanced =
+    steps_on phases plan op ys i d outcome row planned oped left same advanced =
         let advances = subst (λ (r : Status Phase). Advances p Meets x.setup s op.content c r outcome row) (lent_is i d same) advanced in
-        let met = kept.meets x.setup x.contents x.table s v k ph good.inv below is in
         let content : op.content ≡ content_of x.contents (p.plan x.setup s v ph) =
         ap (λ (o : Operation). o.content) oped ∙ operation_content x.contents plan ∙ ap (content_of x.contents) planned in
-        let (out, row_is) = advances below (subst (Meets ph) (sym content) met) steps_few in
+        let turn = p.turn x.setup s v ph op.content c in
+        let (out, row_is) = ∥∥₁_elim {P = (outcome ≡ outcome_of turn) × (row ≡ status_after v k turn)} merely (×_prop (outcomes_prop _ _) (status_prop phases _ _)) (λ good.
+        let met = kept.meets x.setup x.contents x.table s v k ph good.inv below is in
+        advances below (subst (Meets ph) (sym content) met) steps_few) in
         let step = stepping_on in
         stepping_keeps (machine_of p) (running_deciding p kept) x s reached c _ _ (cc, cc)

@@ -1,6 +1,8 @@
 -- A protocol with an invariant gives a deciding object on every board, and every making begins one. Assumes nothing.
 use Rattle.std.specs.Prelude.{◌≡◌, ℕ, ◌<◌, ◌≤◌, Bool, true, false, cond, List, length, Some, None, Decides, Option, nat_eq, nat_le, slice_index, slice_index_or, slice_set, refl}
 use Rattle.std.proofs.Common.{ap, ◌∙◌, inl, inr, arith, length-set}
+use Rattle.std.proofs.Math.Logic.{∥∥₁_elim, ∥∥₁_map}
+use Rattle.std.specs.Coded.{le_prop}
 use Rattle.std.proofs.Math.ListN.{get_or-eq_default}
 use Rattle.std.proofs.lemmas.List.{get_or-set_same, get_or-set_other, get_or-replicate}
 use Rattle.std.proofs.lemmas.Bool.{leb-true, cases_lt, and_parts}
@@ -8,11 +10,11 @@ use Rattle.std.proofs.lemmas.Bool.Decides.{Decides-eqb, Decides-below_and}
 use Rattle.refusal.specs.declared.Refusal.{Refusal}
 use Rattle.refusal.specs.declared.Refusal.TheVariants.{StationCount, TooFewRegisters, RegistersInUse}
 use Rattle.deciding.specs.declared.record.Record.TheVariants.{Away, UnderWay}
-use Rattle.deciding.specs.Laws.{stepped}
+use Rattle.deciding.specs.Laws.{stepped, record_prop, laws_found}
 use Rattle.deciding.specs.Machine.{Step, Beside, Enters, Steps}
-use Rattle.deciding.specs.Sizes.{Sizes, one_to_sixteen}
+use Rattle.deciding.specs.Sizes.{Sizes, one_to_sixteen, sizes_prop}
 use Rattle.deciding.specs.Deciding.{Deciding}
-use Rattle.deciding.specs.Refusable.{refusable, refusable_deciding}
+use Rattle.deciding.specs.Refusable.{refusable, refusable_deciding, with_refusal}
 use Rattle.machine.specs.declared.status.Status.{Status}
 use Rattle.machine.specs.declared.status.Status.TheVariants.{Absent, Running, Done}
 use Rattle.machine.specs.Turn.{Turn, On, End}
@@ -100,50 +102,56 @@ module _ {Setup Phase : Type 0} (p : Protocol Setup Phase) {Meets : Phase → �
       after_good x s x.contents (Running v 0 p.begun) good e.below refl
       (kept.enter_kept _ _ _ s v good.fitting good.inv e.below e.small (row_absent _ e.away))
 
-  module _ (x : Running' Setup Phase) (s c v k : ℕ) (good : Good p kept x) (e : Steps (machine_of p) x s v k) where
+  module _ (x : Running' Setup Phase) (s c v k : ℕ) (e : Steps (machine_of p) x s v k) where
     -- what holds of the step as its phase has it holds of the step
     by_phase : (P : Step (Running' Setup Phase) → Type 0) → ((ph : Phase) → slice_index_or x.table s Absent ≡ Running v k ph → P (step_from p x s c v k ph)) → P ((machine_of p).step x s c)
     by_phase P here = let (ph, is) = row_running (slice_index_or x.table s Absent) v k e.under_way in rw is (here ph is)
 
-    step_good : Good p kept ((machine_of p).step x s c).next
-    step_good = by_phase (λ r. Good p kept r.next) (λ ph is.
-        after_good x s _ _ good e.below (contents_length x.contents _) (kept.step_kept _ _ _ s c v k ph good.fitting good.inv e.below is))
-
     step_beside : Beside (machine_of p) s x ((machine_of p).step x s c).next
     step_beside = by_phase (λ r. Beside (machine_of p) s x r.next) (λ ph is. after_beside x s _ _)
 
-    step_own : (machine_of p).record_of ((machine_of p).step x s c).next s ≡ stepped (UnderWay v k) ((machine_of p).step x s c).outcome
-    step_own = by_phase (λ r. (machine_of p).record_of r.next s ≡ stepped (UnderWay v k) r.outcome) (λ ph is.
-        after_own x s x.contents _ good e.below ∙ shown_after v k _)
+    module _ (good : Good p kept x) where
+      step_good : Good p kept ((machine_of p).step x s c).next
+      step_good = by_phase (λ r. Good p kept r.next) (λ ph is.
+          after_good x s _ _ good e.below (contents_length x.contents _) (kept.step_kept _ _ _ s c v k ph good.fitting good.inv e.below is))
 
-    step_below : ((machine_of p).step x s c).operation.register < p.registers x.setup
-    step_below = by_phase (λ r. r.operation.register < p.registers x.setup) (λ ph is.
-        omega (arith, operation_register x.contents (p.plan x.setup s v ph), kept.below _ _ _ s v k ph good.inv e.below is))
+      step_own : (machine_of p).record_of ((machine_of p).step x s c).next s ≡ stepped (UnderWay v k) ((machine_of p).step x s c).outcome
+      step_own = by_phase (λ r. (machine_of p).record_of r.next s ≡ stepped (UnderWay v k) r.outcome) (λ ph is.
+          after_own x s x.contents _ good e.below ∙ shown_after v k _)
 
+      step_below : ((machine_of p).step x s c).operation.register < p.registers x.setup
+      step_below = by_phase (λ r. r.operation.register < p.registers x.setup) (λ ph is.
+          omega (arith, operation_register x.contents (p.plan x.setup s v ph), kept.below _ _ _ s v k ph good.inv e.below is))
+
+  none_away : (x : Running' Setup Phase) (s : ℕ) → ∥ Good p kept x ∥₁ → p.stations x.setup ≤ s → (machine_of p).record_of x s ≡ Away
+  none_away x s merely past = ∥∥₁_elim merely (record_prop _ _) (λ good. ap shown (good.past s past))
+
+  -- that a state is good can have more than one proof, by the protocol's invariant
   pub running_deciding : Deciding (machine_of p)
   running_deciding = record {
-    Reached = Good p kept;
-    enter_reached = enter_good;
-    enter_beside = λ x s v good e. after_beside x s _ _;
-    enter_own = λ x s v good e. after_own x s x.contents _ good e.below;
-    step_reached = step_good;
-    step_beside = step_beside;
-    step_own = step_own;
-    step_below = step_below;
-    away = λ x s good past. ap shown (good.past s past);
-    sized = λ x good. record {
-      made = λ _. both_within _ _ _ good.some good.fitting.few (kept.within x.setup good.some good.fitting.few);
+    Reached = λ x. ∥ Good p kept x ∥₁;
+    reached_prop = λ x. squash₁;
+    enter_reached = λ x s v merely e. ∥∥₁_map merely (λ good. enter_good x s v good e);
+    enter_beside = λ x s v merely e. after_beside x s _ _;
+    enter_own = λ x s v merely e. ∥∥₁_elim merely (record_prop _ _) (λ good. after_own x s x.contents _ good e.below);
+    step_reached = λ x s c v k merely e. ∥∥₁_map merely (step_good x s c v k e);
+    step_beside = λ x s c v k merely e. step_beside x s c v k e;
+    step_own = λ x s c v k merely e. ∥∥₁_elim merely (record_prop _ _) (step_own x s c v k e);
+    step_below = λ x s c v k merely e. ∥∥₁_elim merely le_prop (step_below x s c v k e);
+    away = none_away;
+    sized = λ x merely. record {
+      made = λ _. ∥∥₁_elim merely (sizes_prop _ _ _) (λ good. both_within _ _ _ good.some good.fitting.few (kept.within x.setup good.some good.fitting.few));
       unmade = λ r e. clash (cc);
     };
-    laws = λ x good. kept.gives _ _ _ good.fitting good.past good.inv;
+    laws = λ x merely. laws_found _ _ _ (p.stations x.setup) (λ s. none_away x s merely) (∥∥₁_map merely (λ good. kept.gives _ _ _ good.fitting good.past good.inv));
   }
 
   -- what is reached is good
-  pub running_good : (x : Running' Setup Phase) → running_deciding.Reached x → Good p kept x
+  pub running_good : (x : Running' Setup Phase) → running_deciding.Reached x → ∥ Good p kept x ∥₁
   unfolding running_deciding
   running_good x reached = reached
 
-  -- THE OBJECT: the machine, and whether its making was refused
+  -- THE OBJECT that a making leaves
   abbrev pub kept_deciding : Deciding (refusable (machine_of p))
   kept_deciding = refusable_deciding (machine_of p) running_deciding
 
@@ -175,9 +183,15 @@ module _ {Setup Phase : Type 0} (p : Protocol Setup Phase) {Meets : Phase → �
         inv = kept.new u xs (fresh p u xs).table fits ((empties xs (p.registers u)).0 empty) no_row;
       }
 
-  -- every making begins an object that is reached
-  pub made_reached : (kept_deciding p kept).Reached (made p u xs)
+  -- a making whose questions pass begins a machine that is reached
+  pub fresh_reached : refusal_of p u xs ≡ None → (running_deciding p kept).Reached (fresh p u xs)
   unfolding running_deciding
-  made_reached none =
-      let good = fresh_good none in
-      record { reached = good; sizes = both_within _ _ _ good.some good.fitting.few (kept.within u good.some good.fitting.few) }
+  fresh_reached none = ∣ fresh_good none ∣₁
+
+  -- whatever a making leaves is reached
+  pub made_reached : (kept_deciding p kept).Reached (made p u xs)
+  made_reached = go (refusal_of p u xs) refl
+    where
+      go : (q : Option Refusal) → refusal_of p u xs ≡ q → (kept_deciding p kept).Reached (with_refusal (fresh p u xs) q)
+      go None none = fresh_reached none
+      go (Some r) some = tt

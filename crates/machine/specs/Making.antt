@@ -3,8 +3,7 @@ use Rattle.std.specs.Prelude.{ℕ, zero, suc, Bool, true, cond, ◌&&◌, List, 
 use Rattle.refusal.specs.declared.Refusal.{Refusal}
 use Rattle.refusal.specs.declared.Refusal.TheVariants.{StationCount, TooFewRegisters, RegistersInUse}
 use Rattle.deciding.specs.Sizes.{one_to_sixteen}
-use Rattle.deciding.specs.declared.refusable.Refusable.{Refusable}
-use Rattle.deciding.specs.Refusable.{with_refusal}
+use Rattle.deciding.specs.Refusable.{Refusable, with_refusal}
 use Rattle.machine.specs.declared.status.Status.TheVariants.{Absent}
 use Rattle.machine.specs.Protocol.{Protocol, Running', running}
 use Rattle.machine.specs.Kept.{rows}

@@ -1,9 +1,9 @@
 ghost use Rattle.std.specs.Prelude.{◌≡◌, ℕ, ◌<◌, Bool, false, ◌&&◌, List, length, ◌==◌, nat_lt, slice_index, slice_index_or};
-ghost use Rattle.deciding.specs.Refusable.{granted, with_refusal};
+ghost use Rattle.deciding.specs.Refusable.{granted};
 ghost use Rattle.machine.specs.declared.status.Status.TheVariants.{Absent};
 ghost use Rattle.machine.specs.Protocol.{machine_of, running};
 ghost use Rattle.machine.specs.Making.{empty_below, refusal_of, made};
-ghost use Rattle.machine.specs.Frame.{kept_deciding, running_deciding};
+ghost use Rattle.machine.specs.Frame.{running_deciding};
 ghost use Rattle.machine.specs.Rows.{Carried, Advances};
 
 use super::protocol::{Proposer, Protocol};
@@ -17,11 +17,13 @@ use refusal::Refusal;
 
 // Up to sixteen stations that run one protocol on one board.
 #[derive(Drop)]
-pub struct StepMachine<P: Protocol, B> {
+pub struct StepMachine<P: Protocol, B: Board> {
     protocol: P,
     board: B,
     table: [Status<P::Phase>; 16],
     ghost whole: { length table ≡ 16 },
+    // It began new and was changed by enter and step only.
+    ghost reached: { (running_deciding P.Protocol.rules P.Protocol.kept).Reached (running protocol (B.Board.contents board) table) } by { (running_deciding P.Protocol.rules P.Protocol.kept).reached_prop (running protocol (B.Board.contents board) table) },
 }
 
 // Is the register empty, or not there?
@@ -116,17 +118,17 @@ fn advance<P: Protocol>(
 
 impl<P: Protocol, B: Board> StepMachine<P, B> {
     // A machine on the board as it is, if the questions of its making pass.
-    pub fn new(protocol: P, board: B) -> Refusable<StepMachine<P, B>>
-        ensures made { with_refusal (running result.inner.protocol (B.Board.contents result.inner.board) result.inner.table) result.refused ≡ made P.Protocol.rules protocol (B.Board.contents board) }
-        ensures reached { (kept_deciding P.Protocol.rules P.Protocol.kept).Reached (with_refusal (running result.inner.protocol (B.Board.contents result.inner.board) result.inner.table) result.refused) }
+    pub fn new(protocol: P, board: B) -> Refusable<StepMachine<P, B>, (P, B)>
+        ensures { ⟦<Refusable<StepMachine<P, B>, (P, B)> as DecidingObject>⟧.state result ≡ made P.Protocol.rules protocol (B.Board.contents board) }
     {
-        let asked = ask(&protocol, &board);
-        let machine = StepMachine {
-            protocol,
-            board,
-            table: [Status::Absent; 16],
-        };
-        Refusable::new(machine, asked)
+        Refusable::new(match ask(&protocol, &board) {
+            Ok(()) => Ok(StepMachine {
+                protocol,
+                board,
+                table: [Status::Absent; 16],
+            }),
+            Err(refusal) => Err((refusal, (protocol, board))),
+        })
     }
 
     // Is it a station?
@@ -152,6 +154,8 @@ impl<P: Protocol, B: Board> DecidingObject for StepMachine<P, B> {
     ghost deciding = { running_deciding P.Protocol.rules P.Protocol.kept };
 
     ghost state = { λ x. running x.protocol (B.Board.contents x.board) x.table };
+
+    ghost reached = { λ x. x.reached };
 
     fn stations(&self) -> u8 {
         self.protocol.stations()
@@ -207,14 +211,11 @@ impl<P: Protocol, B: Board> DecidingObject for StepMachine<P, B> {
                 ..
             } => {
                 let plan = self.protocol.plan(Proposer { station, proposal }, &phase);
+                // The row is lent before the board, so that what the machine keeps is asked for in each branch, and not before
+                // the answer of the board is known.
+                let row = &mut self.table[usize::from(station)];
                 let operation = carry_out(&mut self.board, plan)?;
-                let outcome = advance(
-                    &mut self.table[usize::from(station)],
-                    &self.protocol,
-                    station,
-                    operation.content,
-                    coin,
-                );
+                let outcome = advance(row, &self.protocol, station, operation.content, coin);
                 Ok((operation, outcome))
             }
         }

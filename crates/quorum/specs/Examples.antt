@@ -7,7 +7,7 @@ use Rattle.tables.specs.declared.bit_pairs.BitPairs.{BitPairs}
 use Rattle.quorum.specs.declared.Quorum.{Quorum}
 use Rattle.quorum.specs.declared.QuorumPhase.{QuorumPhase}
 use Rattle.deciding.specs.Machine.{Machine}
-use Rattle.deciding.specs.Refusable.{refusable}
+use Rattle.deciding.specs.Refusable.{refusable, where_made}
 use Rattle.machine.specs.Protocol.{Protocol, machine_of}
 use Rattle.machine.specs.Making.{made}
 use Rattle.tables.specs.BitPairs.{bit_pairs}
@@ -41,12 +41,12 @@ later = machine.enter (steps 18 0 alone) 1 4
 
 pub record Examples : Type 0 where
   pub both_limits : limits ≡ 18 ∷ 13 ∷ []
-  pub seventeen_registers : ((made_on 17).refused ≡ None) × ((made_on 16).refused ≡ Some TooFewRegisters)
+  pub seventeen_registers : (machine.refused (made_on 17) ≡ None) × (machine.refused (made_on 16) ≡ Some TooFewRegisters)
   -- eight writes, the preference register read and written, eight reads
   pub alone_before : machine.record_of (steps 17 0 alone) 0 ≡ UnderWay 5 17
   pub alone_commits : machine.record_of (steps 18 0 alone) 0 ≡ Answered 5 18 (Commit 5)
   -- the write set of 5 is written, and its mark
-  pub alone_contents : (steps 18 0 alone).inner.contents ≡ 0 ∷ 1 ∷ 1 ∷ 0 ∷ 0 ∷ 1 ∷ 1 ∷ 0 ∷ 1 ∷ 0 ∷ 1 ∷ 0 ∷ 1 ∷ 0 ∷ 1 ∷ 0 ∷ 6 ∷ []
+  pub alone_contents : where_made (λ x. x.contents) [] (steps 18 0 alone) ≡ 0 ∷ 1 ∷ 1 ∷ 0 ∷ 0 ∷ 1 ∷ 1 ∷ 0 ∷ 1 ∷ 0 ∷ 1 ∷ 0 ∷ 1 ∷ 0 ∷ 1 ∷ 0 ∷ 6 ∷ []
   -- Register 0 is the first of the read set of 5, and station 1 has written it itself.
   pub later_before : machine.record_of (steps 9 1 later) 1 ≡ UnderWay 4 9
   pub later_adopts : machine.record_of (steps 10 1 later) 1 ≡ Answered 4 10 (Adopt 5)

@@ -3,8 +3,7 @@ use Rattle.std.proofs.Common.{◌≡◌, ℕ, ◌+◌, List, length, Option, sym
 use Rattle.std.specs.declared.ops.ControlFlow.{ControlFlow}
 use Rattle.refusal.specs.declared.Refusal.{Refusal}
 use Rattle.deciding.specs.Machine.{Machine}
-use Rattle.deciding.specs.declared.refusable.Refusable.{Refusable}
-use Rattle.deciding.specs.Refusable.{refusable}
+use Rattle.deciding.specs.Refusable.{Refusable, refusable}
 use Rattle.listing.specs.declared.line.Line.{Line}
 use Rattle.listing.specs.declared.line.Line.TheVariants as line
 use Rattle.listing.specs.Over.{over}
@@ -39,18 +38,18 @@ begins_at m xs p bytes at k x t n l r after w is is_n is_l is_r is_after is_w =
 
 -- an object in the state of the pile that an N asks for was made and served
 pub pile_arrives : (x : Run) (u : Start) (r : ControlFlow (Option Refusal) Start) (y : Run) (d : Built) (s : d.machine.State) →
-    built u.pile u.stations u.leader ≡ d → s ≡ d.start → (d.deciding.Reached s → Arrives (starts x u.pile d.machine s) r y) → Arrives (renews x u) r y
+    built u.pile u.stations u.leader ≡ d → s ≡ d.start → Arrives (starts x u.pile d.machine s) r y → Arrives (renews x u) r y
 pile_arrives x u r y d s asked is arrives =
     let came : Built → Final = λ e. went (pile_begun u.pile e) x.reader.position x.listing.bytes.now x.listing.end (finish (coming x)) in
     subst (λ (f : Final). Arrives f r y)
     (ap (λ z. starts x u.pile d.machine z) is ∙ sym (ap came asked))
-    (arrives (subst d.deciding.Reached (sym is) d.reached))
+    arrives
 
 -- the state of a sequence of two piles just made
 pub sequence_start : (a b : Built) (x : a.machine.State) (y : b.machine.State) (z : Refusable (Pair a.machine.State b.machine.State)) →
-    x ≡ a.start → y ≡ b.start → (a.deciding.Reached x × b.deciding.Reached y → z ≡ sequence_made a.machine b.machine x y) → z ≡ (in_sequence a b).start
+    x ≡ a.start → y ≡ b.start → z ≡ sequence_made a.machine b.machine x y → z ≡ (in_sequence a b).start
 sequence_start a b x y z is_x is_y is_z =
-    is_z (subst a.deciding.Reached (sym is_x) a.reached, subst b.deciding.Reached (sym is_y) b.reached)
+    is_z
     ∙ ap (λ v. sequence_made a.machine b.machine v y) is_x
     ∙ ap (λ v. sequence_made a.machine b.machine a.start v) is_y
 

@@ -1,5 +1,5 @@
 -- The six piles that an N can ask for.
-use Rattle.std.specs.Prelude.{◌≡◌, ℕ, true, List, replicate, None, nat_lt, refl}
+use Rattle.std.specs.Prelude.{◌≡◌, ℕ, true, List, replicate, None, nat_lt}
 use Rattle.board.specs.Cards.{contents_of}
 use Rattle.deciding.specs.Machine.{Machine}
 use Rattle.deciding.specs.Deciding.{Deciding}
@@ -49,7 +49,7 @@ in_sequence a b = record {
   machine = refusable (joint a.machine b.machine);
   deciding = refusable_deciding (joint a.machine b.machine) (joint_deciding a.machine b.machine a.deciding b.deciding);
   start = sequence_made a.machine b.machine a.start b.start;
-  reached = sequence_made_reached a.machine b.machine a.deciding b.deciding a.start b.start a.reached b.reached _ refl;
+  reached = sequence_made_reached a.machine b.machine a.deciding b.deciding a.start b.start a.reached b.reached;
 }
 
 -- the contents of a new cell board, and of a cleared card of 34 bytes, which has 17 registers

@@ -33,6 +33,6 @@ performs m x c = record { answer = (perform m x c).answer; next = (perform m x c
 abbrev pub trial_in : (m : Machine) → TrialState m.State → Responder
 trial_in m x = in_state (performs m) x
 
--- a and y are the answer to the call c in the state x, and the state after it, which is sound again
-abbrev pub Responds : {S : Type 0} → (S → Call → Heard S) → (S → Type 0) → S → Call → Answer → S → Type 0
-Responds f sound x c a y = (a ≡ (f x c).answer) × (y ≡ (f x c).next) × sound y
+-- a and y are the answer to the call c in the state x, and the state after it
+abbrev pub Responds : {S : Type 0} → (S → Call → Heard S) → S → Call → Answer → S → Type 0
+Responds f x c a y = (a ≡ (f x c).answer) × (y ≡ (f x c).next)

@@ -1,6 +1,5 @@
 ghost use Rattle.std.specs.Prelude.{◌≡◌};
-ghost use Rattle.deciding.specs.declared.refusable.Refusable.{Refusable};
-ghost use Rattle.deciding.specs.Refusable.{RefusableReached};
+ghost use Rattle.deciding.specs.Refusable.{Refusable};
 ghost use Rattle.trial.specs.declared.call.Call.{Call as Asked};
 ghost use Rattle.trial.specs.Perform.{TrialState};
 ghost use Rattle.trial.specs.Trials.{tried, whole};
@@ -17,21 +16,16 @@ pub trait Responder {
 
     ghost answers: { State → Asked → Heard State };
 
-    // What has to hold for the answers to be those, and stays so.
-    ghost sound: { State → Type 0 };
-
     ghost state: { Self → State };
 
     fn respond(&mut self, call: Call) -> Answer
-        ensures { sound (state self.old) → Responds answers sound (state self.old) call result (state self.new) };
+        ensures { Responds answers (state self.old) call result (state self.new) };
 }
 
 impl<D: DecidingObject> Responder for Trial<D> {
     ghost State = { TrialState (Refusable D.DecidingObject.machine.State) };
 
     ghost answers = { performs (whole D.DecidingObject) };
-
-    ghost sound = { λ x. RefusableReached D.DecidingObject.machine D.DecidingObject.deciding x.object };
 
     ghost state = { tried D.DecidingObject };
 
@@ -48,8 +42,6 @@ impl Responder for NoTrial {
     ghost State = { Unit {0} };
 
     ghost answers = { refuses_all };
-
-    ghost sound = { λ x. Unit {0} };
 
     ghost state = { λ n. tt };
 

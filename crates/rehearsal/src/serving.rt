@@ -101,8 +101,7 @@ fn begin<D: DecidingObject + Drop>(
     listing: &mut Listing,
 ) -> Served
     requires { 48 ≤ room_of listing.old }
-    ensures arrives { D.DecidingObject.deciding.Reached (D.DecidingObject.state object) →
-        Arrives (starts (run_at reader.old listing.old) pile D.DecidingObject.machine (D.DecidingObject.state object)) result (run_at reader.new listing.new) }
+    ensures arrives { Arrives (starts (run_at reader.old listing.old) pile D.DecidingObject.machine (D.DecidingObject.state object)) result (run_at reader.new listing.new) }
     ensures stays { Stays (run_at reader.old listing.old) (run_at reader.new listing.new) }
     ensures waits { Waits (run_at reader.old listing.old) result (run_at reader.new listing.new) }
 {
@@ -119,8 +118,7 @@ fn begin<D: DecidingObject + Drop>(
 
 // Carries out commands until one begins a pile or the run ends.
 fn serve<R: Responder>(responder: &mut R, reader: &mut Reader, listing: &mut Listing) -> Served
-    ensures arrives { R.Responder.sound (R.Responder.state responder.old) →
-        Arrives (finishes (run_at reader.old listing.old) (in_state R.Responder.answers (R.Responder.state responder.old))) result (run_at reader.new listing.new) }
+    ensures arrives { Arrives (finishes (run_at reader.old listing.old) (in_state R.Responder.answers (R.Responder.state responder.old))) result (run_at reader.new listing.new) }
     ensures stays { Stays (run_at reader.old listing.old) (run_at reader.new listing.new) }
     ensures waits { Waits (run_at reader.old listing.old) result (run_at reader.new listing.new) }
 {

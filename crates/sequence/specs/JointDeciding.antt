@@ -1,18 +1,27 @@
 -- Two deciding objects, one after the other, are a deciding object.
 use Rattle.std.specs.Prelude.{◌≡◌, ℕ, ◌+◌, ◌<◌, ◌≤◌, ◌||◌, ◌⊎◌, Some, None, Option, ◌≢◌, refl}
 use Rattle.std.proofs.Common.{arith, sym, ap, ap₂, ◌∙◌, inl, inr}
+use Rattle.std.specs.Coded.{Coded-set, coded_ℕ}
 use Rattle.std.proofs.lemmas.Bool.{cases_eq}
 use Rattle.deciding.specs.declared.record.Outcome.{Outcome}
 use Rattle.deciding.specs.declared.record.Outcome.TheVariants.{Adopt, Commit}
 use Rattle.deciding.specs.declared.record.Record.{Record}
 use Rattle.deciding.specs.declared.record.Record.TheVariants.{Away, UnderWay, Answered}
 use Rattle.deciding.specs.declared.record.Operation.{Operation}
-use Rattle.deciding.specs.Laws.{Laws, Ends, marks, stepped}
+use Rattle.deciding.specs.Laws.{Laws, Ends, marks, stepped, record_prop}
 use Rattle.deciding.specs.Machine.{Machine, Step, Beside, Enters, Steps}
-use Rattle.deciding.specs.Sizes.{Sized}
+use Rattle.deciding.specs.Sizes.{Sized, sizes_prop}
 use Rattle.deciding.specs.Deciding.{Deciding}
 use Rattle.sequence.specs.Joint.{Pair, pair, joined, Link, step_first, step_second, joint, Together}
 use Rattle.sequence.specs.JointLaws.{Going, going, away_first, joined_laws}
+
+link_prop : (a b : Record) → IsProp (Link a b)
+link_prop Away b = record_prop b Away
+link_prop (UnderWay v k) b = record_prop b Away
+link_prop (Answered v k (Commit u)) b = record_prop b Away
+link_prop (Answered v k (Adopt u)) Away = λ x y. absurd x
+link_prop (Answered v k (Adopt u)) (UnderWay w j) = Coded-set coded_ℕ w u
+link_prop (Answered v k (Adopt u)) (Answered w j o) = Coded-set coded_ℕ w u
 
 -- a state is beside itself
 beside_itself : (m : Machine) (s : ℕ) (x : m.State) → Beside m s x x
@@ -141,9 +150,19 @@ module _ (m n : Machine) (d : Deciding m) (e : Deciding n) where
       joined_laws (m.limit p.first) (n.limit p.second) (m.ratifying p.first) (n.ratifying p.second) (m.record_of p.first) (n.record_of p.second) t.linked
       (d.laws p.first t.first) (e.laws p.second t.second)
 
+  pub together_prop : (p : Pair m.State n.State) → IsProp (Together m n d e p)
+  together_prop p a b = λ i. record {
+    first = d.reached_prop p.first a.first b.first i;
+    second = e.reached_prop p.second a.second b.second i;
+    stations = Coded-set coded_ℕ _ _ a.stations b.stations i;
+    sizes = sizes_prop _ _ _ a.sizes b.sizes i;
+    linked = λ s. link_prop (m.record_of p.first s) (n.record_of p.second s) (a.linked s) (b.linked s) i;
+  }
+
   abbrev pub joint_deciding : Deciding (joint m n)
   joint_deciding = record {
     Reached = Together m n d e;
+    reached_prop = together_prop;
     enter_reached = λ p s v t h. (joint_enters p s v t h).reached;
     enter_beside = λ p s v t h. (joint_enters p s v t h).beside;
     enter_own = λ p s v t h. (joint_enters p s v t h).own;

@@ -1,7 +1,7 @@
 -- The making of a sequence, and the questions that it asks of its parts, in this order: has each 1 to 16 stations, have both as
 -- many, are all records away, are the joined limit and registers at most 1,000.
 use Rattle.std.specs.Prelude.{◌≡◌, ℕ, ◌+◌, Bool, true, false, cond, ◌&&◌, Some, None, Option, ◌==◌, nat_le, refl}
-use Rattle.std.proofs.Common.{arith, sym, ◌∙◌}
+use Rattle.std.proofs.Common.{arith, sym}
 use Rattle.std.proofs.lemmas.Bool.{and_parts, eqb-true, leb-true}
 use Rattle.refusal.specs.declared.Refusal.{Refusal}
 use Rattle.refusal.specs.declared.Refusal.TheVariants.{StationCount, StationsDiffer, NotAllAway, TooLarge}
@@ -10,8 +10,7 @@ use Rattle.deciding.specs.Machine.{Machine}
 use Rattle.deciding.specs.Sizes.{one_to_sixteen}
 use Rattle.deciding.specs.Deciding.{Deciding}
 use Rattle.deciding.specs.Questions.{all_are_away}
-use Rattle.deciding.specs.declared.refusable.Refusable.{Refusable}
-use Rattle.deciding.specs.Refusable.{RefusableReached, with_refusal, sizes_where_made}
+use Rattle.deciding.specs.Refusable.{Refusable, RefusableReached, sizes_where_made, with_refusal}
 use Rattle.sequence.specs.Joint.{Pair, pair, joint, Together}
 use Rattle.sequence.specs.JointDeciding.{joint_deciding}
 
@@ -51,7 +50,8 @@ all_asked true false c d h = let z : ◌≡◌ {A = ℕ} 0 1 = cc in absurd (ome
 all_asked false b c d h = let z : ◌≡◌ {A = ℕ} 0 1 = cc in absurd (omega arith)
 
 module _ (m n : Machine) (d : Deciding m) (e : Deciding n) (x : m.State) (y : n.State) (reached_x : d.Reached x) (reached_y : e.Reached y) where
-  together : sequence_refusal m n x y ≡ None → Together m n d e (pair x y)
+  -- parts whose questions pass go together
+  pub together : sequence_refusal m n x y ≡ None → Together m n d e (pair x y)
   together none =
       let (a, b, c, w) = all_asked (counted m n x y) (as_many m n x y) (untouched m n x y) (within m n x y) none in
       let (short, narrow) = and_parts (nat_le (m.limit x + n.limit y) 1000) (nat_le (m.registers x + n.registers y) 1000) w in
@@ -73,8 +73,10 @@ module _ (m n : Machine) (d : Deciding m) (e : Deciding n) (x : m.State) (y : n.
         linked = λ s. rw (all_are_away m d x reached_x small_x away_x s, all_are_away n e y reached_y small_y away_y s) refl;
       }
 
-  -- every making begins a sequence that is reached
-  pub sequence_made_reached : (q : Option Refusal) → q ≡ sequence_refusal m n x y → RefusableReached (joint m n) (joint_deciding m n d e) (with_refusal (pair x y) q)
-  sequence_made_reached q is none =
-      let t = together (sym is ∙ none) in
-      record { reached = t; sizes = t.sizes }
+  -- whatever a making leaves is reached
+  pub sequence_made_reached : RefusableReached (joint m n) (joint_deciding m n d e) (sequence_made m n x y)
+  sequence_made_reached = go (sequence_refusal m n x y) refl
+    where
+      go : (q : Option Refusal) → sequence_refusal m n x y ≡ q → RefusableReached (joint m n) (joint_deciding m n d e) (with_refusal (pair x y) q)
+      go None none = together none
+      go (Some r) some = tt

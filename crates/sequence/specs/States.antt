@@ -1,35 +1,21 @@
 -- A sequence of the code, as the definitions have it, over the parts' own meaning.
 use Rattle.std.specs.Prelude.{◌≡◌, ℕ, ◌≤◌, true}
 use Rattle.deciding.specs.declared.object.DecidingObject.{Ghosts}
-use Rattle.deciding.specs.declared.refusable.Refusable.{Refusable}
-use Rattle.deciding.specs.Refusable.{RefusableReached, with_refusal}
+use Rattle.deciding.specs.Refusable.{Refusable}
 use Rattle.sequence.specs.declared.Sequence.{Sequence}
-use Rattle.sequence.specs.Joint.{Pair, pair, joint, goes_on}
+use Rattle.sequence.specs.Joint.{Pair, joint, goes_on}
 use Rattle.sequence.specs.JointDeciding.{joint_deciding}
 use Rattle.sequence.specs.Making.{sequence_made}
+use Rattle.sequence.specs.Parts.{parts}
 
 module _ {X Y : Type 0} (G : Ghosts X) (K : Ghosts Y) where
   -- what a sequence is as a deciding object, for clauses that name it
-  abbrev pub both : Ghosts (Sequence X Y)
+  abbrev pub both : Ghosts (Sequence X Y G K)
   both = record {
     machine = joint G.machine K.machine;
     deciding = joint_deciding G.machine K.machine G.deciding K.deciding;
-    state = λ q. pair (G.state q.first) (K.state q.second);
+    state = λ q. parts G K q.first q.second;
   }
-
-  abbrev pub Joined : Sequence X Y → Type 0
-  Joined q = both.deciding.Reached (both.state q)
-
-  -- what a making leaves: a sequence, and why it was refused, if it was
-  abbrev pub state_of : Refusable (Sequence X Y) → Refusable (Pair G.machine.State K.machine.State)
-  state_of q = with_refusal (both.state q.inner) q.refused
-
-  abbrev pub Reached : Refusable (Sequence X Y) → Type 0
-  Reached q = RefusableReached both.machine both.deciding (state_of q)
-
-  -- both parts began new
-  abbrev pub BothReached : X → Y → Type 0
-  BothReached x y = G.deciding.Reached (G.state x) × K.deciding.Reached (K.state y)
 
   abbrev pub made_of : X → Y → Refusable (Pair G.machine.State K.machine.State)
   made_of x y = sequence_made G.machine K.machine (G.state x) (K.state y)

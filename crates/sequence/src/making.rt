@@ -1,7 +1,7 @@
 ghost use Rattle.std.specs.Prelude.{◌≡◌, ℕ, ◌+◌, nat_le};
 ghost use Rattle.deciding.specs.Refusable.{granted};
 ghost use Rattle.sequence.specs.Making.{sequence_refusal};
-ghost use Rattle.sequence.specs.States.{BothReached, Reached, SecondAfter, made_of, state_of};
+ghost use Rattle.sequence.specs.States.{SecondAfter, made_of};
 
 use super::Sequence;
 use deciding::object::DecidingObject;
@@ -20,8 +20,7 @@ fn fits(a: u16, b: u16) -> bool
 
 // Asks the questions of a making.
 fn ask<X: DecidingObject, Y: DecidingObject>(first: &X, second: &Y) -> Result<(), Refusal>
-    ensures { BothReached X.DecidingObject Y.DecidingObject first.now second.now →
-        result ≡ granted (sequence_refusal X.DecidingObject.machine Y.DecidingObject.machine (X.DecidingObject.state first.now) (Y.DecidingObject.state second.now)) }
+    ensures { result ≡ granted (sequence_refusal X.DecidingObject.machine Y.DecidingObject.machine (X.DecidingObject.state first.now) (Y.DecidingObject.state second.now)) }
 {
     if !(one_to_sixteen(first.stations()) && one_to_sixteen(second.stations())) {
         return Err(Refusal::StationCount);
@@ -40,12 +39,13 @@ fn ask<X: DecidingObject, Y: DecidingObject>(first: &X, second: &Y) -> Result<()
 
 impl<X: DecidingObject, Y: DecidingObject> Sequence<X, Y> {
     // The first object, then the second, if the questions of the making pass.
-    pub fn new(first: X, second: Y) -> Refusable<Sequence<X, Y>>
-        ensures state { BothReached X.DecidingObject Y.DecidingObject first second → state_of X.DecidingObject Y.DecidingObject result ≡ made_of X.DecidingObject Y.DecidingObject first second }
-        ensures reached { BothReached X.DecidingObject Y.DecidingObject first second → Reached X.DecidingObject Y.DecidingObject result }
+    pub fn new(first: X, second: Y) -> Refusable<Sequence<X, Y>, (X, Y)>
+        ensures state { ⟦<Refusable<Sequence<X, Y>, (X, Y)> as DecidingObject>⟧.state result ≡ made_of X.DecidingObject Y.DecidingObject first second }
         ensures after { SecondAfter X.DecidingObject Y.DecidingObject }
     {
-        let asked = ask(&first, &second);
-        Refusable::new(Sequence { first, second }, asked)
+        Refusable::new(match ask(&first, &second) {
+            Ok(()) => Ok(Sequence { first, second }),
+            Err(refusal) => Err((refusal, (first, second))),
+        })
     }
 }

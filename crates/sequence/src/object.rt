@@ -1,7 +1,7 @@
 ghost use Rattle.sequence.specs.States.{both};
 
 use super::Sequence;
-use super::steps::{goes_on, join};
+use super::steps::{goes_on, join, step_first, step_second};
 use deciding::object::DecidingObject;
 use deciding::record::{Operation, Outcome, Record};
 use refusal::Refusal;
@@ -12,6 +12,8 @@ impl<X: DecidingObject, Y: DecidingObject> DecidingObject for Sequence<X, Y> {
     ghost deciding = { (both X.DecidingObject Y.DecidingObject).deciding };
 
     ghost state = { (both X.DecidingObject Y.DecidingObject).state };
+
+    ghost reached = { λ x. x.reached };
 
     fn stations(&self) -> u8 {
         self.first.stations()
@@ -44,9 +46,9 @@ impl<X: DecidingObject, Y: DecidingObject> DecidingObject for Sequence<X, Y> {
 
     fn step(&mut self, station: u8, coin: u8) -> Result<(Operation, Option<Outcome>), Refusal> {
         if goes_on(self.first.record(station)) {
-            self.step_second(station, coin)
+            step_second(&self.first, &mut self.second, station, coin)
         } else {
-            self.step_first(station, coin)
+            step_first(&mut self.first, &mut self.second, station, coin)
         }
     }
 }

@@ -1,9 +1,8 @@
 ghost use Rattle.std.specs.Prelude.{◌≡◌, ℕ, ◌+◌, ◌^◌, ◌<◌, true, false};
 ghost use Rattle.deciding.specs.Calls.{Stepping};
-ghost use Rattle.sequence.specs.Joint.{StepsFit, joined, moved, goes_on};
-ghost use Rattle.sequence.specs.States.{Joined, both};
+ghost use Rattle.sequence.specs.Joint.{StepsFit, joint, joined, moved, goes_on};
+ghost use Rattle.sequence.specs.Parts.{PartsReached, parts};
 
-use super::Sequence;
 use deciding::object::DecidingObject;
 use deciding::record::{Operation, Outcome, Record};
 use refusal::Refusal;
@@ -60,36 +59,38 @@ fn shifted(operation: Operation, by: u16) -> Operation
     }
 }
 
-impl<X: DecidingObject, Y: DecidingObject> Sequence<X, Y> {
-    // A step of a station that has no mark to go on with. If the first part now gives it one, it enters the second with it.
-    pub(super) fn step_first(
-        &mut self,
-        station: u8,
-        coin: u8,
-    ) -> Result<(Operation, Option<Outcome>), Refusal>
-        ensures { Joined X.DecidingObject Y.DecidingObject self.old →
-            goes_on (X.DecidingObject.machine.record_of (X.DecidingObject.state self.old.first) station) ≡ false →
-            let whole = both X.DecidingObject Y.DecidingObject in Stepping whole.machine (whole.state self.old) station coin result (whole.state self.new) }
-    {
-        let (operation, outcome) = self.first.step(station, coin)?;
-        if let Some(Outcome::Adopt(mark)) = outcome {
-            self.second.enter(station, mark)?;
-            return Ok((operation, None));
-        }
-        Ok((operation, outcome))
+// A step of a station that has no mark to go on with. If the first part now gives it one, it enters the second with it.
+pub(super) fn step_first<X: DecidingObject, Y: DecidingObject>(
+    first: &mut X,
+    second: &mut Y,
+    station: u8,
+    coin: u8,
+) -> Result<(Operation, Option<Outcome>), Refusal>
+    ensures { PartsReached X.DecidingObject Y.DecidingObject first.old second.old →
+        goes_on (X.DecidingObject.machine.record_of (X.DecidingObject.state first.old) station) ≡ false →
+        Stepping (joint X.DecidingObject.machine Y.DecidingObject.machine) (parts X.DecidingObject Y.DecidingObject first.old second.old) station coin result
+        (parts X.DecidingObject Y.DecidingObject first.new second.new) }
+{
+    let (operation, outcome) = first.step(station, coin)?;
+    if let Some(Outcome::Adopt(mark)) = outcome {
+        second.enter(station, mark)?;
+        return Ok((operation, None));
     }
+    Ok((operation, outcome))
+}
 
-    // A step of a station that came out of the first part with a mark.
-    pub(super) fn step_second(
-        &mut self,
-        station: u8,
-        coin: u8,
-    ) -> Result<(Operation, Option<Outcome>), Refusal>
-        ensures { Joined X.DecidingObject Y.DecidingObject self.old →
-            goes_on (X.DecidingObject.machine.record_of (X.DecidingObject.state self.old.first) station) ≡ true →
-            let whole = both X.DecidingObject Y.DecidingObject in Stepping whole.machine (whole.state self.old) station coin result (whole.state self.new) }
-    {
-        let (operation, outcome) = self.second.step(station, coin)?;
-        Ok((shifted(operation, self.first.registers()), outcome))
-    }
+// A step of a station that came out of the first part with a mark.
+pub(super) fn step_second<X: DecidingObject, Y: DecidingObject>(
+    first: &X,
+    second: &mut Y,
+    station: u8,
+    coin: u8,
+) -> Result<(Operation, Option<Outcome>), Refusal>
+    ensures { PartsReached X.DecidingObject Y.DecidingObject first.now second.old →
+        goes_on (X.DecidingObject.machine.record_of (X.DecidingObject.state first.now) station) ≡ true →
+        Stepping (joint X.DecidingObject.machine Y.DecidingObject.machine) (parts X.DecidingObject Y.DecidingObject first.now second.old) station coin result
+        (parts X.DecidingObject Y.DecidingObject first.now second.new) }
+{
+    let (operation, outcome) = second.step(station, coin)?;
+    Ok((shifted(operation, first.registers()), outcome))
 }

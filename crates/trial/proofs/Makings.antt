@@ -8,7 +8,7 @@ use Rattle.deciding.specs.Sizes.{one_to_sixteen}
 use Rattle.deciding.specs.Machine.{Machine}
 use Rattle.deciding.specs.Deciding.{Deciding}
 use Rattle.deciding.specs.Questions.{all_are_away}
-use Rattle.deciding.specs.Refusable.{refusable, RefusableReached, with_refusal, sizes_where_made}
+use Rattle.deciding.specs.Refusable.{refusable, RefusableReached, with_refusal}
 use Rattle.deciding.specs.Refusable.{refusable_deciding}
 use Rattle.trial.specs.declared.call.Call.{Call}
 use Rattle.trial.specs.Perform.{AllSmall, trial_refusal}
@@ -24,13 +24,11 @@ both true false h = clash (cc)
 both false b h = clash (cc)
 
 module _ (m : Machine) (d : Deciding m) (x : m.State) (reached : d.Reached x) where
-  pub trial_reached : (q : Option Refusal) → q ≡ trial_refusal m x → RefusableReached m d (with_refusal x q)
-  trial_reached q e none =
-      let is : trial_refusal m x ≡ None = cc in
-      let (small, away) = both (one_to_sixteen (m.stations x)) (all_away (m.record_of x) 16) is in
-      record { reached = reached; sizes = sizes_where_made m d x reached small }
+  -- what the making leaves is reached, refused or not, and all its records are away
+  pub trial_reached : (q : Option Refusal) → RefusableReached m d (with_refusal x q)
+  trial_reached None = reached
+  trial_reached (Some r) = tt
 
-  -- refused or not, all records are away
   pub trial_away : (q : Option Refusal) → q ≡ trial_refusal m x → (s : ℕ) → (refusable m).record_of (with_refusal x q) s ≡ Away
   trial_away (Some r) e s = refl
   trial_away None e s =
@@ -42,4 +40,4 @@ module _ (m : Machine) (d : Deciding m) (x : m.State) (reached : d.Reached x) wh
   pub lawful_trial : (calls : List Call) → AllSmall calls → LawfulTrial m x calls
   lawful_trial calls small =
       lawful (refusable m) (refusable_deciding m d) (with_refusal x (trial_refusal m x))
-      (trial_reached (trial_refusal m x) refl) (trial_away (trial_refusal m x) refl) calls small
+      (trial_reached (trial_refusal m x)) (trial_away (trial_refusal m x) refl) calls small

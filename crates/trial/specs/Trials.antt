@@ -3,8 +3,7 @@ use Rattle.std.specs.Prelude.{◌≡◌, ℕ, false, List, length, slice_index_o
 use Rattle.deciding.specs.declared.object.DecidingObject.{Ghosts}
 use Rattle.deciding.specs.declared.record.Record.TheVariants.{Away}
 use Rattle.deciding.specs.Machine.{Machine}
-use Rattle.deciding.specs.declared.refusable.Refusable.{Refusable}
-use Rattle.deciding.specs.Refusable.{refusable, RefusableReached, with_refusal}
+use Rattle.deciding.specs.Refusable.{Refusable, refusable, state_made, with_refusal}
 use Rattle.trial.specs.declared.call.Call.{Call}
 use Rattle.trial.specs.Answers.{Answer}
 use Rattle.trial.specs.declared.Trial.{Trial}
@@ -29,15 +28,11 @@ module _ {D : Type 0} (G : Ghosts D) where
   whole = refusable G.machine
 
   abbrev pub tried : Trial D → TrialState (Refusable G.machine.State)
-  tried t = record { object = with_refusal (G.state t.pile.inner) t.pile.refused; stopped = λ s. slice_index_or t.stopped s false }
-
-  -- the trial began with a pile begun new, and accepted calls led to where it is
-  abbrev pub Reached : Trial D → Type 0
-  Reached t = RefusableReached G.machine G.deciding (tried t).object
+  tried t = record { object = state_made G.state t.pile.made; stopped = λ s. slice_index_or t.stopped s false }
 
   -- a is the answer to the call c, and u the trial after it
   abbrev pub Does : Trial D → Call → Answer → Trial D → Type 0
-  Does t c a u = Reached t → Performs whole (tried t) c a (tried u)
+  Does t c a u = Performs whole (tried t) c a (tried u)
 
   -- a trial of this pile as its making leaves it
   abbrev pub made_of : D → TrialState (Refusable G.machine.State)
@@ -45,7 +40,6 @@ module _ {D : Type 0} (G : Ghosts D) where
 
   -- as trials of piles begun new begin: all records away, nobody stopped
   pub record Begun (t : Trial D) : Type 0 where
-    pub reached : Reached t
     pub away : (s : ℕ) → whole.record_of (tried t).object s ≡ Away
     pub stopped : (s : ℕ) → (tried t).stopped s ≡ false
 

@@ -2,7 +2,7 @@ ghost use Rattle.std.specs.Prelude.{◌≡◌, ℕ, ◌<◌, true, false, if◌t
 ghost use Rattle.trial.specs.declared.call.Call.TheVariants.{Enter, Step, Stop};
 ghost use Rattle.deciding.specs.Refusable.{granted};
 ghost use Rattle.trial.specs.Perform.{admission, entered_as, stepped_as, stopped_as};
-ghost use Rattle.trial.specs.Trials.{Does, Reached, tried, whole};
+ghost use Rattle.trial.specs.Trials.{Does, tried, whole};
 
 use super::Trial;
 use super::call::{Answer, Call, Effect};
@@ -29,7 +29,7 @@ impl<D: DecidingObject> Trial<D> {
 
     // Is there such a station, and is it not stopped?
     fn admit(&self, station: u8) -> Result<(), Refusal>
-        ensures { Reached D.DecidingObject self.now → result ≡ granted (admission (whole D.DecidingObject) (tried D.DecidingObject self.now) station) }
+        ensures { result ≡ granted (admission (whole D.DecidingObject) (tried D.DecidingObject self.now) station) }
     {
         if station >= self.stations() {
             return Err(Refusal::NoSuchStation);

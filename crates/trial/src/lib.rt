@@ -11,6 +11,6 @@ use deciding::refusable::Refusable;
 // whether it was stopped. A stopped station enters and steps no more; its record and its registers remain.
 #[derive(Drop)]
 pub struct Trial<D> {
-    pile: Refusable<D>,
+    pile: Refusable<D, D>,
     stopped: [bool; 16],
 }

@@ -1,7 +1,7 @@
 ghost use Rattle.std.specs.Prelude.{◌≡◌};
 ghost use Rattle.deciding.specs.Refusable.{granted};
 ghost use Rattle.trial.specs.Perform.{trial_refusal};
-ghost use Rattle.trial.specs.Trials.{Begun, Reached, made_of, tried, whole};
+ghost use Rattle.trial.specs.Trials.{Begun, made_of, tried, whole};
 
 use super::Trial;
 use deciding::object::DecidingObject;
@@ -12,7 +12,7 @@ use refusal::Refusal;
 
 // Asks the questions of a making.
 fn ask<D: DecidingObject>(pile: &D) -> Result<(), Refusal>
-    ensures { D.DecidingObject.deciding.Reached (D.DecidingObject.state pile.now) → result ≡ granted (trial_refusal D.DecidingObject.machine (D.DecidingObject.state pile.now)) }
+    ensures { result ≡ granted (trial_refusal D.DecidingObject.machine (D.DecidingObject.state pile.now)) }
 {
     if !one_to_sixteen(pile.stations()) {
         return Err(Refusal::StationCount);
@@ -26,36 +26,39 @@ fn ask<D: DecidingObject>(pile: &D) -> Result<(), Refusal>
 impl<D: DecidingObject> Trial<D> {
     // A trial of the pile, with nobody stopped. Where a question is answered no it has no stations.
     pub fn new(pile: D) -> Trial<D>
-        ensures state { D.DecidingObject.deciding.Reached (D.DecidingObject.state pile) → tried D.DecidingObject result ≡ made_of D.DecidingObject pile }
-        ensures begun { D.DecidingObject.deciding.Reached (D.DecidingObject.state pile) → Begun D.DecidingObject result }
+        ensures state { tried D.DecidingObject result ≡ made_of D.DecidingObject pile }
+        ensures begun { Begun D.DecidingObject result }
     {
-        let asked = ask(&pile);
+        let made = match ask(&pile) {
+            Ok(()) => Ok(pile),
+            Err(refusal) => Err((refusal, pile)),
+        };
         Trial {
-            pile: Refusable::new(pile, asked),
+            pile: Refusable::new(made),
             stopped: [false; 16],
         }
     }
 
     pub fn stations(&self) -> u8
-        ensures { Reached D.DecidingObject self.now → result ≡ (whole D.DecidingObject).stations (tried D.DecidingObject self.now).object }
+        ensures { result ≡ (whole D.DecidingObject).stations (tried D.DecidingObject self.now).object }
     {
         self.pile.stations()
     }
 
     pub fn limit(&self) -> u16
-        ensures { Reached D.DecidingObject self.now → result ≡ (whole D.DecidingObject).limit (tried D.DecidingObject self.now).object }
+        ensures { result ≡ (whole D.DecidingObject).limit (tried D.DecidingObject self.now).object }
     {
         self.pile.limit()
     }
 
     pub fn registers(&self) -> u16
-        ensures { Reached D.DecidingObject self.now → result ≡ (whole D.DecidingObject).registers (tried D.DecidingObject self.now).object }
+        ensures { result ≡ (whole D.DecidingObject).registers (tried D.DecidingObject self.now).object }
     {
         self.pile.registers()
     }
 
     pub fn ratifying(&self) -> bool
-        ensures { Reached D.DecidingObject self.now → result ≡ (whole D.DecidingObject).ratifying (tried D.DecidingObject self.now).object }
+        ensures { result ≡ (whole D.DecidingObject).ratifying (tried D.DecidingObject self.now).object }
     {
         self.pile.ratifying()
     }
@@ -64,11 +67,11 @@ impl<D: DecidingObject> Trial<D> {
     pub fn refused(&self) -> Option<Refusal>
         ensures { result ≡ (whole D.DecidingObject).refused (tried D.DecidingObject self.now).object }
     {
-        self.pile.refusal()
+        self.pile.refused()
     }
 
     pub fn record(&self, station: u8) -> Record
-        ensures { Reached D.DecidingObject self.now → result ≡ (whole D.DecidingObject).record_of (tried D.DecidingObject self.now).object station }
+        ensures { result ≡ (whole D.DecidingObject).record_of (tried D.DecidingObject self.now).object station }
     {
         self.pile.record(station)
     }

@@ -1,5 +1,5 @@
 ghost use Rattle.std.specs.Prelude.{◌≡◌, MatchResult};
-ghost use Rattle.trial.specs.Trials.{Begun, Reached, Rehearsed, Runs, tried};
+ghost use Rattle.trial.specs.Trials.{Begun, Rehearsed, Runs, tried};
 
 use super::Trial;
 use super::call::{Answer, Call};
@@ -16,7 +16,7 @@ pub fn rehearse<D: DecidingObject>(
     calls: &[Call],
     heap: Global,
 ) -> Result<Vec<Answer>, AllocError>
-    ensures runs { Reached D.DecidingObject trial.old → MatchResult result
+    ensures runs { MatchResult result
         (λ answers. Runs D.DecidingObject trial.old calls.now answers.items trial.new)
         (λ _. tried D.DecidingObject trial.new ≡ tried D.DecidingObject trial.old) }
     ensures law { Begun D.DecidingObject trial.old → MatchResult result

@@ -11,9 +11,7 @@ invariant-loop-refusal g l =
     let here = run_at l.reader l.listing in
     Stays from here
     × (from.reader.position ≤ here.reader.position)
-    × (R.sound (R.state l.initial.responder) →
-    R.sound (R.state l.responder)
-    × (finishes from (in_state R.answers (R.state l.initial.responder)) ≡ finishes here (in_state R.answers (R.state l.responder))))
+    × (finishes from (in_state R.answers (R.state l.initial.responder)) ≡ finishes here (in_state R.answers (R.state l.responder)))
 
 abbrev pub decreases-loop-refusal : goal.decreases-loop-refusal
 decreases-loop-refusal g l = length l.reader.schedule.now - l.reader.position

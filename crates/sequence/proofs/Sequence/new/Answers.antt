@@ -1,11 +1,11 @@
-use Rattle.std.proofs.Common.{◌∙◌}
-use Rattle.deciding.specs.Refusable.{granted_same}
-use Rattle.sequence.specs.Making.{sequence_made_reached}
+use Rattle.deciding.specs.Refusable.{was_granted}
+use Rattle.sequence.specs.Making.{together}
 use Rattle.sequence.proofs.Sequence.new.Goals as goal
 
-pub returns-clause-reached : goal.returns-clause-reached
-returns-clause-reached g c reached =
+pub invariant_of-new : goal.invariant_of-new
+invariant_of-new g c =
     let G = g.X.DecidingObject in
     let K = g.Y.DecidingObject in
-    let same = granted_same _ _ (c.new.ensures.refused ∙ c.ask-asked.ensures reached) in
-    rw c.new.ensures.inner (sequence_made_reached G.machine K.machine G.deciding K.deciding (G.state c.args.first) (K.state c.args.second) reached.0 reached.1 _ same)
+    let began = g.met.X.DecidingObject.reached c.args.first in
+    let also = g.met.Y.DecidingObject.reached c.args.second in
+    record { reached = together G.machine K.machine G.deciding K.deciding (G.state c.args.first) (K.state c.args.second) began also (was_granted _ c.in-Ok.ensures) }

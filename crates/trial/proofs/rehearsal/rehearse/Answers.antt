@@ -1,5 +1,5 @@
 use Rattle.std.proofs.Common.{vec_items, arith}
-use Rattle.deciding.specs.Refusable.{refusable_deciding}
+use Rattle.deciding.specs.Refusable.{all_reached, refusable_deciding}
 use Rattle.trial.specs.Trials.{tried, whole}
 use Rattle.trial.proofs.Rehearsing.{so_none, so_more, given_answers, given_last, given_each, given_obeys}
 use Rattle.trial.proofs.rehearsal.rehearse.Goals as goal
@@ -10,9 +10,8 @@ loop-call-init g c =
     let new = c.in_ok-answers.ensures in (
       new.len,
       new.capacity,
-      λ reached.
-          rw new.items
-          (so_none (whole D) (refusable_deciding D.machine D.deciding) (tried D c.args.trial.now) c.args.calls.now reached),
+      rw new.items
+          (so_none (whole D) (refusable_deciding D.machine D.deciding) (tried D c.args.trial.now) c.args.calls.now (all_reached D.machine D.deciding D.state g.met.D.DecidingObject.reached c.args.trial.now.pile.made)),
     )
 
 pub loop-call-preserved : goal.loop-call-preserved
@@ -23,11 +22,9 @@ loop-call-preserved g c =
     let pushed = c.push_reserved.ensures in (
       omega arith,
       omega arith,
-      λ reached.
-          let so = inv.2 reached in
-          rw pushed.items
+      rw pushed.items
           (so_more (whole D) d (tried D c.args.trial.now) c.args.calls.now c.loop-call.call-index (vec_items c.loop-call.answers) (tried D c.loop-call.trial) _
-          c.perform.result (tried D c.perform.new.self) c.loop-call-test.true so (c.perform.ensures so.reached)),
+          c.perform.result (tried D c.perform.new.self) c.loop-call-test.true inv.2 c.perform.ensures),
     )
 
 pub returns : goal.returns
@@ -42,9 +39,9 @@ returns g c =
     let y = tried D c.loop-call.trial in
     let all = c.loop-call-test.false in
     record {
-      runs = λ reached. let so = c.loop-call.invariant.2 reached in record { answers = given_answers m d x calls i given y all so; last = given_last m d x calls i given y all so };
+      runs = let so = c.loop-call.invariant.2 in record { answers = given_answers m d x calls i given y all so; last = given_last m d x calls i given y all so };
       law = λ begun.
-          let so = c.loop-call.invariant.2 begun.reached in
-          let obeys = given_obeys m d x calls i given y all so begun.reached begun.away begun.stopped in
+          let so = c.loop-call.invariant.2 in
+          let obeys = given_obeys m d x calls i given y all so (all_reached D.machine D.deciding D.state g.met.D.DecidingObject.reached c.args.trial.now.pile.made) begun.away begun.stopped in
           record { each = given_each m d x calls i given y all so; lawful = obeys.law; in_range = obeys.range };
     }
