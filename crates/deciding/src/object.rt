@@ -9,9 +9,9 @@ use refusal::Refusal;
 // An object by which up to sixteen stations agree on a mark: each enters with a proposal, takes steps of one
 // register operation each, and comes to an outcome.
 //
-// What it does is said by an abstract machine, and that this keeps the laws of deciding objects by `deciding`,
-// without which there is no implementation. The promises hold of every object that began new, by a making of
-// its type, and was changed by enter and step only: that is what `Reached` says, and every making ensures it.
+// What it does is said by an abstract machine, and that this keeps the laws of deciding objects by `deciding`, without which there
+// is no implementation. `Reached` says of a state that an object comes to it from its making by enter and step only, and the law
+// `reached` that every value of the type is in such a state.
 pub trait DecidingObject {
     ghost machine: { Machine };
 

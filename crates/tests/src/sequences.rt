@@ -8,7 +8,7 @@ use refusal::Refusal;
 use sequence::Sequence;
 use waiting::Waiting;
 
-type Part<P> = Refusable<StepMachine<P, CellBoard>>;
+type Part<P> = Refusable<StepMachine<P, CellBoard>, (P, CellBoard)>;
 
 fn collect_part(stations: u8) -> Part<Collect> {
     StepMachine::new(Collect { stations }, CellBoard::new())
