@@ -1,5 +1,7 @@
 ghost use Rattle.std.specs.Prelude.{◌≡◌, ℕ, ◌+◌, ◌-◌, min};
 
+// A mark and a content are plain numbers, so these two cannot be `From`.
+
 // The content that keeps a mark, never 0, since that means empty.
 pub fn content_for(mark: u8) -> u16
     ensures { result ≡ mark + 1 }

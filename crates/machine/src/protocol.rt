@@ -40,7 +40,8 @@ pub trait Protocol {
     fn ratifying(&self) -> bool
         ensures { result ≡ rules.ratifying };
 
-    // The protocol's own question at a making, asked after that for the number of stations.
+    // The protocol's own question at a making, asked after that for the number of stations. A protocol that has none says so: a
+    // body for it here would have to keep the clause whatever the rules are.
     fn question(&self) -> Result<(), Refusal>
         ensures { result ≡ granted (rules.question self.now) };
 

@@ -4,7 +4,8 @@ ghost use Rattle.machine.specs.Protocol.{shown};
 use deciding::record::{Outcome, Record};
 
 // A station's row in the table of a machine: its proposal and its steps, and while it is under way
-// its phase, that is the place in its protocol with what it has read so far.
+// its phase, that is the place in its protocol with what it has read so far. `Record` is not this enum without a phase: then
+// everybody who reads a record would meet a phase of type `()`.
 #[derive(Clone, Copy)]
 pub enum Status<P> {
     Absent,

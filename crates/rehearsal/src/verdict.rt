@@ -10,7 +10,8 @@ pub struct Start {
     pub leader: u8,
 }
 
-// What a command comes to before any trial is asked.
+// What a command comes to before any trial is asked: two ways on, and three ways to be refused that differ in the line and in
+// whether the run goes on, so that no `Result` tells them apart.
 #[derive(Clone, Copy)]
 pub enum Verdict {
     // The run ends without a line, at the end of the schedule or of the listing.

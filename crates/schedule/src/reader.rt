@@ -34,7 +34,8 @@ impl<'a> Reader<'a> {
         self.schedule.len() <= self.position
     }
 
-    // The next command, or none at the end. A refusal reads nothing: the reader stays before the letter.
+    // The next command, or none at the end. A refusal reads nothing: the reader stays before the letter. That the schedule is the
+    // same is said of two states of a reader, so it cannot be a fact of the type.
     pub fn next(&mut self) -> Result<Option<Command<'a>>, Refusal>
         ensures shows { Shows self.old.schedule.now self.old.position result self.new.position }
         ensures same { self.new.schedule ≡ self.old.schedule }

@@ -59,6 +59,9 @@ fn shifted(operation: Operation, by: u16) -> Operation
     }
 }
 
+// The two steps take the parts and not the sequence, which would have to show its fact between a step of the first part and an
+// enter of the second.
+
 // A step of a station that has no mark to go on with. If the first part now gives it one, it enters the second with it.
 pub(super) fn step_first<X: DecidingObject, Y: DecidingObject>(
     first: &mut X,

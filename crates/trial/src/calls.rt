@@ -22,6 +22,7 @@ impl<D: DecidingObject> Trial<D> {
         ensures marks { station < 16 → (t : ℕ) → slice_index_or self.new.stopped t false ≡ (if nat_eq t station then true else slice_index_or self.old.stopped t false) }
         ensures rest { self.new.pile ≡ self.old.pile }
     {
+        // What is written through `get_mut` to an array is lost to the proof.
         if station < 16 {
             self.stopped[usize::from(station)] = true;
         }
