@@ -30,31 +30,19 @@ impl<T: DecidingObject, G> DecidingObject for Refusable<T, G> {
     ghost reached = { λ x. all_reached T.machine T.deciding T.state T.reached x.made };
 
     fn stations(&self) -> u8 {
-        match &self.made {
-            Ok(object) => object.stations(),
-            Err(_) => 0,
-        }
+        self.made.as_ref().map_or(0, |object| object.stations())
     }
 
     fn limit(&self) -> u16 {
-        match &self.made {
-            Ok(object) => object.limit(),
-            Err(_) => 0,
-        }
+        self.made.as_ref().map_or(0, |object| object.limit())
     }
 
     fn registers(&self) -> u16 {
-        match &self.made {
-            Ok(object) => object.registers(),
-            Err(_) => 0,
-        }
+        self.made.as_ref().map_or(0, |object| object.registers())
     }
 
     fn ratifying(&self) -> bool {
-        match &self.made {
-            Ok(object) => object.ratifying(),
-            Err(_) => false,
-        }
+        self.made.as_ref().is_ok_and(|object| object.ratifying())
     }
 
     fn refused(&self) -> Option<Refusal> {
@@ -65,10 +53,9 @@ impl<T: DecidingObject, G> DecidingObject for Refusable<T, G> {
     }
 
     fn record(&self, station: u8) -> Record {
-        match &self.made {
-            Ok(object) => object.record(station),
-            Err(_) => Record::Away,
-        }
+        self.made
+            .as_ref()
+            .map_or(Record::Away, |object| object.record(station))
     }
 
     fn enter(&mut self, station: u8, mark: u8) -> Result<(), Refusal> {
