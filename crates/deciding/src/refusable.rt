@@ -58,6 +58,7 @@ impl<T: DecidingObject, G> DecidingObject for Refusable<T, G> {
             .map_or(Record::Away, |object| object.record(station))
     }
 
+    // What is changed through `as_mut` is lost to the proof, so `enter` and `step` take it by a `match`.
     fn enter(&mut self, station: u8, mark: u8) -> Result<(), Refusal> {
         match &mut self.made {
             Ok(object) => object.enter(station, mark),
