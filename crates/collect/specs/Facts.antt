@@ -6,16 +6,15 @@ use Rattle.deciding.specs.Laws.{mark}
 use Rattle.collect.specs.Ratifier.{full, vote, fits, found_in, verdict}
 use Rattle.collect.specs.Invariant.{Row, View, RowProposes, mark_content, AgreesPast, VotesPast, Proposed, FullVote, TwoMarks, VoteContent, Single, Invariant}
 
--- What a content tells of the full vote found.
+-- What the first full vote found tells: it was found before, or just now.
 pub found_from : (f : Option ℕ) (x u : ℕ) → found_in f x ≡ Some u → (f ≡ Some u) ⊎ (x ≡ full u)
 found_from f x u e = grind (arith, nat_tests)
 
--- What an outcome tells.
+-- What an outcome tells: its mark is the own one, or that of the full vote found.
 pub verdict_mark : (v : ℕ) (c : Bool) (f : Option ℕ) → (mark (verdict v c f) ≡ v) ⊎ (f ≡ Some (mark (verdict v c f)))
 verdict_mark v c f = grind arith
 
--- What a row and its registers tell.
--- a mark that differs from v is another proposal
+-- What a row and its registers tell: a mark that differs from v is another proposal
 pub mark_differs : (row : Row) (sign v : ℕ) → sign ≡ mark_content row → fits (v + 1) sign ≡ false → RowProposes row (sign - 1) × (sign - 1 ≢ v)
 mark_differs row sign v h e = grind (arith, nat_tests)
 

@@ -82,11 +82,11 @@ module _ (u : Collect) (xs : List ℕ) (t : List Row) (s : ℕ)
   kept_read row proposes station = kept_by xs row _ _ refl refl (λ j near other. (refl, refl)) proposes (λ x e. e) station
 
   entered : (v : ℕ) → v < marks → slice_index_or t s Absent ≡ Absent → Holds u xs (slice_set t s (Running v 0 WriteMark))
-  entered v small away = kept_read (Running v 0 WriteMark) (λ x h. absurd (subst (λ (r : Row). RowProposes r x) away h)) (enter_holds u.stations (view u xs t) s inv below v small away)
+  entered v small away = kept_read (Running v 0 WriteMark) (λ x h. absurd (rw away at h)) (enter_holds u.stations (view u xs t) s inv below v small away)
 
   module _ (c v k : ℕ) where
     proposed_own : (ph : CollectPhase) → slice_index_or t s Absent ≡ Running v k ph → (x : ℕ) → RowProposes (slice_index_or t s Absent) x → v ≡ x
-    proposed_own ph is x h = subst (λ (r : Row). RowProposes r x) is h
+    proposed_own ph is x h = rw is at h
 
     stepped : (ph : CollectPhase) → slice_index_or t s Absent ≡ Running v k ph →
         Holds u (contents_after xs (collect_plan u s v ph)) (slice_set t s (status_after v k (collect_turn u s v ph (content_of xs (collect_plan u s v ph)) c)))
@@ -100,7 +100,7 @@ module _ (u : Collect) (xs : List ℕ) (t : List Row) (s : ℕ)
         (λ e. kept_read _ (proposed_own _ is) (read_on u.stations (view u xs t) s inv below v k i agree is (ltb-true (i + 1) u.stations e)))
         (λ e. kept_read _ (proposed_own _ is) (read_out u.stations (view u xs t) s inv below v k i agree is (ltb-false (i + 1) u.stations e)))
     stepped (WriteVote agree) is =
-        let unvoted = subst (λ (r : Row). VoteContent u.stations (view u xs t) r (slice_index xs (u.stations + s))) is (inv.station s below).single.vote_register in
+        let unvoted = rw is at (inv.station s below).single.vote_register in
         let at = u.stations + s in
         kept_by (slice_set xs at (vote agree v)) (Running v (k + 1) (ReadVotes 0 true None)) (slice_index xs s) (vote agree v)
         (grind (arith, get_or-set_other)) (grind (arith, get_or-set_same)) (λ j near other. grind (arith, get_or-set_other))
@@ -116,7 +116,9 @@ voted_small : (n : ℕ) (w : ℕ → View) (row : Row) (vote : ℕ) → VoteCont
 voted_small n w row vote h small = grind (arith, small ((vote - 1) / 2))
 
 met : (u : Collect) (xs : List ℕ) (t : List Row) → Holds u xs t → (s v k : ℕ) (ph : CollectPhase) → Placed u.stations (Running v k ph) → collect_meets ph (content_of xs (collect_plan u s v ph))
-met u xs t inv s v k ph placed = let small = λ (i : ℕ) (l : i < u.stations). voted_small u.stations (view u xs t) (slice_index_or t i Absent) (slice_index xs (u.stations + i)) (inv.station i l).single.vote_register (inv.station i l).single.small in grind arith
+met u xs t inv s v k ph placed =
+    let small = λ (i : ℕ) (l : i < u.stations). let single = (inv.station i l).single in voted_small _ _ _ _ single.vote_register single.small in
+    grind arith
 
 pub collect_kept : Kept collect collect_meets
 collect_kept = record {

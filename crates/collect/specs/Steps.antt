@@ -24,14 +24,14 @@ module _ (n : ℕ) (w : ℕ → View) (s : ℕ) where
 
 module _ (n : ℕ) (w : ℕ → View) (s : ℕ) (inv : Invariant n w) (below : s < n) where
   now : (row : Row) → (w s).row ≡ row → StationHolds n w s (with_row w s row)
-  now row is = subst (λ (r : Row). StationHolds n w s (with_row w s r)) is (inv.station s below)
+  now row is = rw is at (inv.station s below)
 
   pub enter_holds : (v : ℕ) → v < marks → (w s).row ≡ Absent → StationHolds n w s (with_row w s (Running v 0 WriteMark))
   enter_holds v small is = let old = (now Absent is).single in grind arith
 
   module _ (v k : ℕ) where
     own : (ph : CollectPhase) → (w s).row ≡ Running v k ph → Proposed n w v
-    own ph is = record { by = s; below = below; proposes = subst (λ (r : Row). RowProposes r v) (sym is) refl }
+    own ph is = record { by = s; below = below; proposes = rw is refl }
 
     pub mark_holds : (w s).row ≡ Running v k WriteMark → StationHolds n w s (view_of (Running v (k + 1) (ReadMarks 0 true)) (v + 1) (w s).vote_register)
     mark_holds is = let old = (now (Running v k WriteMark) is).single in grind arith
@@ -154,7 +154,7 @@ module _ (n : ℕ) (w : ℕ → View) (s : ℕ) (inv : Invariant n w) (below : s
                 clean = λ x e. vote_clean x (grind arith);
                 found = λ x h. absurd h;
                 takes = λ x _ e. out_takes s x below e (vote_takes x (omega arith) e);
-                valid = λ o e. subst (λ (r : Outcome). Proposed n w (mark r)) e out_valid;
+                valid = λ o e. rw e at out_valid;
               };
               pair = λ j near. grind (arith, vote_pair j near, out_takes j);
             }
