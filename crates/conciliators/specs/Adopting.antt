@@ -1,6 +1,6 @@
 -- Every protocol on one register in which a station writes nothing but its own mark, and adopts its own mark or the one that it
 -- finds, keeps the laws. The invariant: the register is empty or holds a proposal, and no outcome is a commit.
-use Rattle.std.specs.Prelude.{◌≡◌, ℕ, ◌+◌, ◌-◌, ◌<◌, ◌≤◌, false, ◌⊎◌, List, length, get_or, slice_index, slice_index_or, slice_set, refl}
+use Rattle.std.specs.Prelude.{◌≡◌, ℕ, ◌+◌, ◌-◌, ◌<◌, ◌≤◌, false, ◌⊎◌, List, length, slice_index, slice_index_or, slice_set, refl}
 use Rattle.std.proofs.Common.{sym, ◌∙◌, inl, inr, arith}
 use Rattle.std.proofs.lemmas.List.{get_or-set_same}
 use Rattle.std.proofs.lemmas.Bool.{true≢false}
@@ -108,7 +108,7 @@ module _ {Setup Phase : Type 0} (p : Protocol Setup Phase) (a : Adopting p) wher
         Leads (a.Placed u x (k + 1)) v x turn → Fits (p.limit u) P (status_after v k turn)
     turn_fits P turn small bound own found leads = grind (arith, a.bounded u x (k + 1))
 
-  module _ (u : Setup) (xs : List ℕ) (t : List (Status Phase)) (s v k : ℕ) (ph : Phase) (inv : Invariant u xs t) (is : get_or t s Absent ≡ Running v k ph) where
+  module _ (u : Setup) (xs : List ℕ) (t : List (Status Phase)) (s v k : ℕ) (ph : Phase) (inv : Invariant u xs t) (is : slice_index_or t s Absent ≡ Running v k ph) where
     abbrev plan : Plan
     plan = p.plan u s v ph
 
@@ -130,7 +130,7 @@ module _ {Setup Phase : Type 0} (p : Protocol Setup Phase) (a : Adopting p) wher
         row : Status Phase
         row = status_after v k turn
 
-        left : get_or (contents_after xs plan) 0 0 ≡ content_of xs plan
+        left : slice_index (contents_after xs plan) 0 ≡ content_of xs plan
         left = met_is_left v xs plan room own
 
         stays : (w : ℕ) → Proposes (shown (slice_index_or t s Absent)) w → Proposes (shown row) w
@@ -155,7 +155,7 @@ module _ {Setup Phase : Type 0} (p : Protocol Setup Phase) (a : Adopting p) wher
   laws u xs t inv =
       laws_of (p.limit u) p.ratifying t inv.fits
       (λ s j w o e _. grind (arith, adopts s (Commit w) e))
-      (λ yes. absurd (true≢false (sym yes ∙ a.not_ratifying)))
+      (λ yes. cc a.not_ratifying)
       (λ _. adopts)
     where
       adopts : (s : ℕ) (o : Outcome) → Ends (shown (slice_index_or t s Absent)) o → o ≡ Adopt (mark o)

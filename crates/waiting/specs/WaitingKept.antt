@@ -1,14 +1,13 @@
 -- The waiting conciliator is one of those on one register that write nothing but the own mark: it writes nothing at all.
-use Rattle.std.specs.Prelude.{◌≡◌, ℕ, ◌+◌, ◌<◌, nat_lt, slice_index, refl}
-use Rattle.std.proofs.Common.{arith, inl}
+use Rattle.std.specs.Prelude.{◌≡◌, ℕ, ◌<◌, refl}
+use Rattle.std.proofs.Common.{arith}
 use Rattle.std.proofs.lemmas.Bool.Decides.{nat_tests}
-use Rattle.machine.specs.Turn.{Turn}
 use Rattle.machine.specs.Kept.{Kept}
-use Rattle.conciliators.specs.Adopting.{Adopting, EmptyOrMark, Leads, adopting_kept}
+use Rattle.conciliators.specs.Adopting.{Adopting, EmptyOrMark, adopting_kept}
 use Rattle.waiting.specs.declared.Waiting.{Waiting}
 use Rattle.waiting.specs.declared.WaitingPhase.{WaitingPhase}
 use Rattle.waiting.specs.declared.WaitingPhase.TheVariants.{Wait}
-use Rattle.waiting.specs.Waiting.{waiting_limit, waiting_turn, waiting_conciliator}
+use Rattle.waiting.specs.Waiting.{waiting_limit, waiting_conciliator}
 
 -- its steps are its reads
 abbrev Placed : Waiting → ℕ → ℕ → WaitingPhase → Type 0
