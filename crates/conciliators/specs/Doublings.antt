@@ -1,5 +1,5 @@
 -- How often 1 is doubled until it is at least n.
-use Rattle.std.specs.Prelude.{◌≡◌, ℕ, zero, suc, ◌+◌, ◌^◌, ◌<◌, ◌≤◌, cond, nat_le}
+use Rattle.std.specs.Prelude.{◌≡◌, ℕ, zero, suc, ◌+◌, ◌^◌, ◌<◌, ◌≤◌, if◌then◌else◌, nat_le}
 use Rattle.std.proofs.Common.{add-suc, add-zero, suc-add, zero-add, arith, pow_mono}
 use Rattle.std.proofs.lemmas.Bool.Decides.{nat_tests}
 
@@ -11,7 +11,7 @@ pub record SmallestPower (n k : ℕ) : Type 0 where
 -- the first k from j on with 2 ^ k at least n, looked for among so many
 abbrev pub doublings_from : ℕ → ℕ → ℕ → ℕ
 doublings_from zero j n = j
-doublings_from (suc more) j n = let further = doublings_from more (suc j) n in cond (nat_le n (2 ^ j)) j further
+doublings_from (suc more) j n = let further = doublings_from more (suc j) n in if nat_le n (2 ^ j) then j else further
 
 -- n doublings are more than enough
 abbrev pub doublings_to : ℕ → ℕ
