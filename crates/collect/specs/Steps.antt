@@ -1,6 +1,6 @@
 -- Each step of the collect ratifier: what held of its station before the step holds of it after.
 use Rattle.std.specs.Prelude.{◌≡◌, ℕ, ◌+◌, ◌<◌, ◌≤◌, Bool, true, false, ◌&&◌, Some, None, Option, refl}
-use Rattle.std.proofs.Common.{sym, subst, inl, inr, arith}
+use Rattle.std.proofs.Common.{inl, inr, arith}
 use Rattle.std.proofs.lemmas.Bool.Decides.{nat_tests}
 use Rattle.deciding.specs.declared.record.Outcome.{Outcome}
 use Rattle.machine.specs.declared.status.Status.TheVariants.{Absent, Running, Done}
@@ -8,7 +8,7 @@ use Rattle.collect.specs.declared.CollectPhase.{CollectPhase}
 use Rattle.collect.specs.declared.CollectPhase.TheVariants.{WriteMark, ReadMarks, WriteVote, ReadVotes}
 use Rattle.deciding.specs.Laws.{mark, marks}
 use Rattle.collect.specs.Ratifier.{full, vote, fits, found_in, verdict}
-use Rattle.collect.specs.Invariant.{Row, View, RowProposes, AgreesPast, CleanPast, Proposed, FullVote, TwoMarks, Pair, StationHolds, Invariant, agrees_mark}
+use Rattle.collect.specs.Invariant.{Row, View, AgreesPast, CleanPast, Proposed, FullVote, TwoMarks, Pair, StationHolds, Invariant, agrees_mark}
 use Rattle.collect.specs.Facts.{found_from, verdict_mark, mark_differs, read_voted, vote_differs, others, full_once, full_proposed, differ}
 
 abbrev pub view_of : Row → ℕ → ℕ → View
