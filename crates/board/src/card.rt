@@ -1,3 +1,5 @@
+#![tactic(auto, using(crate::proofs::CardLists::on_contents))]
+
 ghost use Rattle.std.specs.Prelude.{◌≡◌, ℕ, refl};
 ghost use Rattle.std.proofs.Common.{◌∙◌};
 ghost use Rattle.board.specs.Board.{Writes};

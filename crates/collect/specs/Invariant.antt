@@ -1,7 +1,7 @@
 -- The invariant of the collect ratifier, over what there is to see of each station: its row and its two registers.
 -- It speaks of one station at a time and of two stations at a time; docs/PROOF.md tells the argument in prose.
 use Rattle.std.specs.Prelude.{◌≡◌, ℕ, ◌+◌, ◌*◌, ◌<◌, true, false, ◌⊎◌, Some}
-use Rattle.std.proofs.Common.{sym, subst, inl, inr, arith}
+use Rattle.std.proofs.Common.{sym, inl, inr, arith}
 use Rattle.deciding.specs.declared.record.Outcome.{Outcome}
 use Rattle.deciding.specs.declared.record.Outcome.TheVariants.{Adopt, Commit}
 use Rattle.machine.specs.declared.status.Status.{Status}
@@ -166,23 +166,14 @@ pub record Invariant (n : ℕ) (w : ℕ → View) : Type 0 where
   pub station : (s : ℕ) → s < n → StationHolds n w s (w s)
 
 pub agrees_mark : (row : Row) (vote b x : ℕ) → AgreesPast row vote b x → mark_content row ≡ x + 1
-agrees_mark Absent vote b x h = absurd h
-agrees_mark (Running v k WriteMark) vote b x h = absurd h
-agrees_mark (Running v k (ReadMarks i agree)) vote b x h = omega arith
-agrees_mark (Running v k (WriteVote agree)) vote b x h = omega arith
-agrees_mark (Running v k (ReadVotes i clean found)) vote b x h = omega arith
-agrees_mark (Done v k o) vote b x h = omega arith
+agrees_mark row vote b x h = grind arith
 
 -- two stations, the other way round, and a view beside itself
 swapped : {a b : ℕ} {p q : View} → Pair a b p q → Pair b a q p
 swapped h = record { agree = λ x y k l. sym (h.agree y x l k); respects = h.respected; respected = h.respects }
 
 alone : (a b : ℕ) (p : View) → Pair a b p p
-alone a b p = record {
-  agree = λ x y h k. omega (arith, agrees_mark p.row p.vote_register b x h, agrees_mark p.row p.vote_register a y k);
-  respects = λ x h e. inl e;
-  respected = λ x h e. inl e;
-}
+alone a b p = grind arith
 
 -- ONE STATION MOVES: its view becomes p, and what it had proposed and voted it still proposes and votes. Then the invariant
 -- holds again, if it holds of p beside the others as they were.
@@ -194,54 +185,30 @@ module _ (n : ℕ) (w w' : ℕ → View) (s : ℕ) (p : View) (inv : Invariant n
   proposed_on x h = record {
     by = h.by;
     below = h.below;
-    proposes = elim (came h.by h.below) [
-      | inl (e, is) ↦ rw is (proposes x (subst (λ (j : ℕ). RowProposes (w j).row x) e h.proposes))
-      | inr is ↦ rw is h.proposes
-    ];
+    proposes = grind (arith, came h.by h.below, proposes x);
   }
 
   full_on : (x : ℕ) → FullVote n w x → FullVote n w' x
   full_on x h = record {
     by = h.by;
     below = h.below;
-    votes = elim (came h.by h.below) [
-      | inl (e, is) ↦ rw is (votes x (subst (λ (j : ℕ). (w j).vote_register ≡ full x) e h.votes))
-      | inr is ↦ rw is h.votes
-    ];
+    votes = grind (arith, came h.by h.below, votes x);
   }
 
   two_on : TwoMarks n w → TwoMarks n w'
   two_on h = record { one = h.one; two = h.two; first = proposed_on _ h.first; second = proposed_on _ h.second; apart = h.apart }
 
   voted_on : (row : Row) (vote : ℕ) → VoteContent n w row vote → VoteContent n w' row vote
-  voted_on Absent vote h = h
-  voted_on (Running v k WriteMark) vote h = h
-  voted_on (Running v k (ReadMarks i agree)) vote h = h
-  voted_on (Running v k (WriteVote agree)) vote h = h
-  voted_on (Running v k (ReadVotes i clean found)) vote h = elim h [ inl e ↦ inl e | inr (e, two) ↦ inr (e, two_on two) ]
-  voted_on (Done v k o) vote h = elim h [ inl e ↦ inl e | inr (e, two) ↦ inr (e, two_on two) ]
+  voted_on row vote h = grind (arith, two_on)
 
   single_on : (j : ℕ) (q : View) → Single n w j q → Single n w' j q
-  single_on j q h = record {
-    small = h.small;
-    placed = h.placed;
-    mark_register = h.mark_register;
-    vote_register = voted_on q.row q.vote_register h.vote_register;
-    saw_other = λ d. two_on (h.saw_other d);
-    clean = h.clean;
-    found = λ x f. full_on x (h.found x f);
-    takes = h.takes;
-    valid = λ o e. proposed_on _ (h.valid o e);
-  }
+  single_on j q h = search (voted_on, two_on, full_on, proposed_on, h.saw_other, h.found, h.valid)
 
   -- what held of a station beside the others as they were holds beside them as they are now
   holds_on : (b : ℕ) (q : View) → StationHolds n w b q → Pair b s q p → StationHolds n w' b q
   holds_on b q old new = record {
     single = single_on b q old.single;
-    pair = λ j below. elim (came j below) [
-      | inl (e, is) ↦ rw (is, e) new
-      | inr is ↦ rw is (old.pair j below)
-    ];
+    pair = λ j below. grind (arith, came j below, old.pair j below);
   }
 
   pub moved : Invariant n w'

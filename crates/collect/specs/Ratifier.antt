@@ -1,6 +1,6 @@
 -- The collect ratifier, which the field knows as commit-adopt: write the own mark, read all marks, write a vote, read all votes.
 -- Station s of n has register s for its mark and register n + s for its vote.
-use Rattle.std.specs.Prelude.{ℕ, ◌+◌, ◌-◌, ◌*◌, ◌/◌, ◌%◌, ◌≤◌, Bool, true, false, cond, not, ◌&&◌, ◌||◌, Some, None, Option, ◌==◌, nat_lt}
+use Rattle.std.specs.Prelude.{ℕ, ◌+◌, ◌-◌, ◌*◌, ◌/◌, ◌%◌, ◌≤◌, Bool, true, false, if◌then◌else◌, not, ◌&&◌, ◌||◌, Some, None, Option, ◌==◌, nat_lt}
 use Rattle.deciding.specs.declared.record.Outcome.{Outcome}
 use Rattle.deciding.specs.declared.record.Outcome.TheVariants.{Adopt, Commit}
 use Rattle.machine.specs.declared.status.Plan.{Plan}
@@ -30,7 +30,7 @@ fits y x = x == 0 || x == y
 -- the mark of the first full vote found, after a further content x was read
 abbrev pub found_in : Option ℕ → ℕ → Option ℕ
 found_in (Some u) x = Some u
-found_in None x = cond (not (x == 0) && x % 2 == 0) (Some (x / 2 - 1)) None
+found_in None x = if not (x == 0) && x % 2 == 0 then Some (x / 2 - 1) else None
 
 -- the outcome of a station that proposed v, by whether all votes were full ones for v, and by the mark of the first full vote
 abbrev pub verdict : ℕ → Bool → Option ℕ → Outcome
@@ -48,12 +48,12 @@ abbrev pub collect_turn : Collect → ℕ → ℕ → CollectPhase → ℕ → �
 collect_turn u s v WriteMark x c = On (ReadMarks 0 true)
 collect_turn u s v (ReadMarks i agree) x c =
     let agree' = agree && fits (v + 1) x in
-    On (cond (nat_lt (i + 1) u.stations) (ReadMarks (i + 1) agree') (WriteVote agree'))
+    On (if nat_lt (i + 1) u.stations then ReadMarks (i + 1) agree' else WriteVote agree')
 collect_turn u s v (WriteVote agree) x c = On (ReadVotes 0 true None)
 collect_turn u s v (ReadVotes i clean found) x c =
     let clean' = clean && fits (full v) x in
     let found' = found_in found x in
-    cond (nat_lt (i + 1) u.stations) (On (ReadVotes (i + 1) clean' found')) (End (verdict v clean' found'))
+    if nat_lt (i + 1) u.stations then On (ReadVotes (i + 1) clean' found') else End (verdict v clean' found')
 
 -- what a station may find: a vote is for a mark
 abbrev pub collect_meets : CollectPhase → ℕ → Type 0

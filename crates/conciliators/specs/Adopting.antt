@@ -1,9 +1,8 @@
 -- Every protocol on one register in which a station writes nothing but its own mark, and adopts its own mark or the one that it
 -- finds, keeps the laws. The invariant: the register is empty or holds a proposal, and no outcome is a commit.
-use Rattle.std.specs.Prelude.{◌≡◌, ℕ, zero, suc, ◌+◌, ◌<◌, ◌≤◌, false, ◌⊎◌, List, length, get_or, slice_index, slice_index_or, slice_set, refl}
-use Rattle.std.proofs.Common.{subst, sym, ◌∙◌, inl, inr, add-one, arith}
+use Rattle.std.specs.Prelude.{◌≡◌, ℕ, ◌+◌, ◌-◌, ◌<◌, ◌≤◌, false, ◌⊎◌, List, length, slice_index, slice_index_or, slice_set, refl}
+use Rattle.std.proofs.Common.{◌∙◌, inl, inr, arith}
 use Rattle.std.proofs.lemmas.List.{get_or-set_same}
-use Rattle.std.proofs.lemmas.Bool.{true≢false}
 use Rattle.deciding.specs.declared.record.Outcome.{Outcome}
 use Rattle.deciding.specs.declared.record.Outcome.TheVariants.{Adopt, Commit}
 use Rattle.machine.specs.declared.status.Status.{Status}
@@ -12,9 +11,8 @@ use Rattle.machine.specs.declared.status.Plan.{Plan}
 use Rattle.machine.specs.declared.status.Plan.TheVariants.{Read, Write}
 use Rattle.machine.specs.Turn.{Turn, On, End}
 use Rattle.deciding.specs.Laws.{Laws, Proposes, Ends, mark, marks}
-use Rattle.machine.specs.Protocol.{Protocol, shown, register_of, content_of, contents_after, status_after}
+use Rattle.machine.specs.Protocol.{Protocol, shown, content_of, contents_after, status_after}
 use Rattle.machine.specs.Kept.{rows, Within, Kept}
-use Rattle.machine.specs.Frame.{clash}
 use Rattle.machine.specs.Stations.{each_set, Proposed, proposed_set, proposed_own, Fits, fits_more, fits_small, laws_of}
 
 -- an operation on register 0, which writes nothing but the mark v
@@ -52,21 +50,14 @@ pub record Adopting {Setup Phase : Type 0} (p : Protocol Setup Phase) : Type 1 w
 module _ (v : ℕ) where
   -- the content that it meets is the one that it leaves
   met_is_left : (xs : List ℕ) (plan : Plan) → 0 < length xs → OwnMark v plan → slice_index (contents_after xs plan) 0 ≡ content_of xs plan
-  met_is_left xs (Read i) room own = rw own
-  met_is_left xs (Write i w) room own = rw own.0 (get_or-set_same xs 0 w 0 room)
+  met_is_left xs plan room own = grind (arith, get_or-set_same)
 
   found_or_own : (xs : List ℕ) (plan : Plan) → OwnMark v plan → (content_of xs plan ≡ slice_index xs 0) ⊎ (content_of xs plan ≡ v + 1)
-  found_or_own xs (Read i) own = inl (rw own)
-  found_or_own xs (Write i w) own = inr own.1
-
-  on_register_0 : (plan : Plan) → OwnMark v plan → register_of plan ≡ 0
-  on_register_0 (Read i) own = own
-  on_register_0 (Write i w) own = own.0
+  found_or_own xs plan own = grind arith
 
 -- the proposal stays, whatever the turn
 proposes_after : {Phase : Type 0} (v k w : ℕ) (turn : Turn Phase) → v ≡ w → Proposes (shown (status_after v k turn)) w
-proposes_after v k w (On ph) e = e
-proposes_after v k w (End o) e = e
+proposes_after v k w turn e = grind arith
 
 module _ {Setup Phase : Type 0} (p : Protocol Setup Phase) (a : Adopting p) where
   -- of a row, where register 0 holds x
@@ -82,7 +73,7 @@ module _ {Setup Phase : Type 0} (p : Protocol Setup Phase) (a : Adopting p) wher
     register : (w : ℕ) → slice_index xs 0 ≡ w + 1 → Proposed t w
 
   begins : (u : Setup) (xs : List ℕ) (t : List (Status Phase)) → slice_index xs 0 ≡ 0 → ((s : ℕ) → slice_index_or t s Absent ≡ Absent) → Invariant u xs t
-  begins u xs t empty none = record { fits = λ s. rw (none s) tt; placed = λ s. rw (none s) tt; register = λ w e. absurd (omega arith) }
+  begins u xs t empty none = grind (arith, none)
 
   -- ONE ROW IS SET. Its proposal stays, and the register stays or takes the row's proposal.
   module _ (u : Setup) (xs xs' : List ℕ) (t : List (Status Phase)) (s : ℕ) (row : Status Phase) (there : s < length t) (inv : Invariant u xs t)
@@ -92,15 +83,10 @@ module _ {Setup Phase : Type 0} (p : Protocol Setup Phase) (a : Adopting p) wher
     still_proposed = proposed_set t s row there stays
 
     register_after : (w : ℕ) → slice_index xs' 0 ≡ w + 1 → Proposed (slice_set t s row) w
-    register_after w e = elim change [
-      | inl same ↦ still_proposed w (inv.register w (sym same ∙ e))
-      | inr (v, new, own) ↦ let same : v ≡ w = omega arith in proposed_own t s row w there (rw same at own)
-    ]
+    register_after w e = grind (arith, still_proposed w, inv.register w, proposed_own t s row w there)
 
     others_placed : (other : Status Phase) → RowPlaced u (slice_index xs 0) other → RowPlaced u (slice_index xs' 0) other
-    others_placed Absent h = tt
-    others_placed (Running v k ph) h = elim change [ inl same ↦ rw same h | inr (w, new, own) ↦ rw new (a.written u (slice_index xs 0) w k ph h) ]
-    others_placed (Done v k o) h = h
+    others_placed other h = grind (arith, a.written u (slice_index xs 0))
 
     set_kept : Fits (p.limit u) (Proposed (slice_set t s row)) row → RowPlaced u (slice_index xs' 0) row → Invariant u xs' (slice_set t s row)
     set_kept fits placed = record {
@@ -119,16 +105,9 @@ module _ {Setup Phase : Type 0} (p : Protocol Setup Phase) (a : Adopting p) wher
   module _ (u : Setup) (v k x : ℕ) where
     turn_fits : (P : ℕ → Type 0) (turn : Turn Phase) → v < marks → k < p.limit u → P v → ((w : ℕ) → x ≡ w + 1 → P w) →
         Leads (a.Placed u x (k + 1)) v x turn → Fits (p.limit u) P (status_after v k turn)
-    turn_fits P (On ph) small bound own found leads = (small, a.bounded u x (k + 1) ph leads)
-    turn_fits P (End (Adopt m)) small bound own found leads = (small, omega arith, omega arith, elim leads [ inl e ↦ rw e own | inr e ↦ found m e ])
-    turn_fits P (End (Commit m)) small bound own found leads = absurd leads
+    turn_fits P turn small bound own found leads = grind (arith, a.bounded u x (k + 1))
 
-    turn_placed : (turn : Turn Phase) → Leads (a.Placed u x (k + 1)) v x turn → RowPlaced u x (status_after v k turn)
-    turn_placed (On ph) leads = leads
-    turn_placed (End (Adopt m)) leads = refl
-    turn_placed (End (Commit m)) leads = absurd leads
-
-  module _ (u : Setup) (xs : List ℕ) (t : List (Status Phase)) (s v k : ℕ) (ph : Phase) (inv : Invariant u xs t) (is : get_or t s Absent ≡ Running v k ph) where
+  module _ (u : Setup) (xs : List ℕ) (t : List (Status Phase)) (s v k : ℕ) (ph : Phase) (inv : Invariant u xs t) (is : slice_index_or t s Absent ≡ Running v k ph) where
     abbrev plan : Plan
     plan = p.plan u s v ph
 
@@ -142,7 +121,7 @@ module _ {Setup Phase : Type 0} (p : Protocol Setup Phase) (a : Adopting p) wher
         Invariant u (contents_after xs plan) (slice_set t s (status_after v k (p.turn u s v ph (content_of xs plan) c)))
     stepped c room there below = set_kept u xs (contents_after xs plan) t s row there inv stays change
         (turn_fits u v k _ _ turn fitted.0 fitted.1 (proposed_own t s row v there (proposes_after v k v turn refl)) (register_after u xs (contents_after xs plan) t s row there inv stays change) leads)
-        (turn_placed u v k _ turn leads)
+        (grind (arith, leads))
       where
         turn : Turn Phase
         turn = p.turn u s v ph (content_of xs plan) c
@@ -150,7 +129,7 @@ module _ {Setup Phase : Type 0} (p : Protocol Setup Phase) (a : Adopting p) wher
         row : Status Phase
         row = status_after v k turn
 
-        left : get_or (contents_after xs plan) 0 0 ≡ content_of xs plan
+        left : slice_index (contents_after xs plan) 0 ≡ content_of xs plan
         left = met_is_left v xs plan room own
 
         stays : (w : ℕ) → Proposes (shown (slice_index_or t s Absent)) w → Proposes (shown row) w
@@ -163,27 +142,23 @@ module _ {Setup Phase : Type 0} (p : Protocol Setup Phase) (a : Adopting p) wher
         leads = rw left (a.turned u xs s c v k ph below (rw is at (inv.placed s)))
 
     -- the register holds at most a mark, and so does what is written
-    register_small : (x : ℕ) → slice_index xs 0 ≡ x → x ≤ marks
-    register_small zero e = omega arith
-    register_small (suc w) e = let (j, proposes) = inv.register w (e ∙ sym (add-one w)) in omega (arith, fits_small (p.limit u) (Proposed t) (slice_index_or t j Absent) w (inv.fits j) proposes)
+    register_small : slice_index xs 0 ≤ marks
+    register_small =
+        let held = slice_index xs 0 - 1 in
+        grind (arith, inv.register held, λ (j : ℕ). fits_small (p.limit u) (Proposed t) (slice_index_or t j Absent) held (inv.fits j))
 
     met_small : content_of xs plan ≤ marks
-    met_small = elim (found_or_own v xs plan own) [ inl e ↦ rw e (register_small (slice_index xs 0) refl) | inr e ↦ omega (arith, fitted.0) ]
-
-  row_adopts : (u : Setup) (x : ℕ) (row : Status Phase) (o : Outcome) → RowPlaced u x row → Ends (shown row) o → o ≡ Adopt (mark o)
-  row_adopts u x Absent o placed e = absurd e
-  row_adopts u x (Running v k ph) o placed e = absurd e
-  row_adopts u x (Done v k q) o placed e = subst (λ (r : Outcome). r ≡ Adopt (mark r)) e placed
+    met_small = grind (arith, fitted.0, register_small, found_or_own v xs plan own)
 
   laws : (u : Setup) (xs : List ℕ) (t : List (Status Phase)) → Invariant u xs t → Laws (p.limit u) p.ratifying (λ s. shown (slice_index_or t s Absent))
   laws u xs t inv =
       laws_of (p.limit u) p.ratifying t inv.fits
-      (λ s j w o e _. let commits = adopts s (Commit w) e in clash (cc))
-      (λ yes. absurd (true≢false (sym yes ∙ a.not_ratifying)))
+      (λ s j w o e _. grind (arith, adopts s (Commit w) e))
+      (λ yes. cc a.not_ratifying)
       (λ _. adopts)
     where
       adopts : (s : ℕ) (o : Outcome) → Ends (shown (slice_index_or t s Absent)) o → o ≡ Adopt (mark o)
-      adopts s o = row_adopts u (slice_index xs 0) (slice_index_or t s Absent) o (inv.placed s)
+      adopts s o e = grind (arith, inv.placed s)
 
   pub adopting_kept : Kept p EmptyOrMark
   adopting_kept = record {
@@ -192,7 +167,7 @@ module _ {Setup Phase : Type 0} (p : Protocol Setup Phase) (a : Adopting p) wher
     enter_kept = λ u xs t s v fitting inv below. entered u xs t s v (omega arith) inv;
     step_kept = λ u xs t s c v k ph fitting inv below is. stepped u xs t s v k ph inv is c (omega (arith, a.one_register u)) (omega arith) below;
     meets = λ u xs t s v k ph inv below is. met_small u xs t s v k ph inv is;
-    below = λ u xs t s v k ph inv below is. omega (arith, a.one_register u, on_register_0 v (p.plan u s v ph) (a.planned u s v ph));
+    below = λ u xs t s v k ph inv below is. grind (arith, a.one_register u, a.planned u s v ph);
     within = λ u some few. (a.limit_within u some few, (omega (arith, a.one_register u), omega (arith, a.one_register u)));
     gives = λ u xs t fitting past inv. laws u xs t inv;
   }

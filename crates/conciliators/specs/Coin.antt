@@ -1,5 +1,5 @@
 -- The coin conciliator: a station that finds the register empty writes its mark with a chance that doubles from try to try.
-use Rattle.std.specs.Prelude.{ℕ, ◌+◌, ◌-◌, ◌%◌, ◌^◌, false, cond, None, ◌==◌, nat_lt}
+use Rattle.std.specs.Prelude.{ℕ, ◌+◌, ◌-◌, ◌%◌, ◌^◌, false, if◌then◌else◌, None, ◌==◌, nat_lt}
 use Rattle.deciding.specs.declared.record.Outcome.TheVariants.{Adopt}
 use Rattle.machine.specs.declared.status.Plan.{Plan}
 use Rattle.machine.specs.declared.status.Plan.TheVariants.{Read as Reading, Write as Writing}
@@ -17,11 +17,11 @@ coin_plan u s v Confirm = Reading 0
 
 -- where try t of one of n stations leads, by the coin c, if the register is empty: 2 ^ t of the n remainders let the station write
 abbrev pub by_coin : ℕ → ℕ → ℕ → CoinPhase
-by_coin n t c = cond (nat_lt (c % n) (2 ^ t)) Write (Try (t + 1))
+by_coin n t c = if nat_lt (c % n) (2 ^ t) then Write else Try (t + 1)
 
 -- a content other than 0 is a mark and 1
 abbrev pub coin_turn : Coin → ℕ → ℕ → CoinPhase → ℕ → ℕ → Turn CoinPhase
-coin_turn u s v (Try t) x c = cond (x == 0) (On (by_coin u.stations t c)) (End (Adopt (x - 1)))
+coin_turn u s v (Try t) x c = if x == 0 then On (by_coin u.stations t c) else End (Adopt (x - 1))
 coin_turn u s v Write x c = On Confirm
 coin_turn u s v Confirm x c = End (Adopt (x - 1))
 

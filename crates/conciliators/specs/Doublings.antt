@@ -1,7 +1,7 @@
 -- How often 1 is doubled until it is at least n.
-use Rattle.std.specs.Prelude.{◌≡◌, ℕ, zero, suc, ◌+◌, ◌^◌, ◌<◌, ◌≤◌, cond, nat_le}
-use Rattle.std.proofs.Common.{inl, inr, add-suc, add-zero, le_of_lt, suc-add, zero-add, arith, pow_mono}
-use Rattle.std.proofs.lemmas.Bool.{cases_eq, cases_lt, cond_both, leb-true, leb-false}
+use Rattle.std.specs.Prelude.{◌≡◌, ℕ, zero, suc, ◌+◌, ◌^◌, ◌<◌, ◌≤◌, if◌then◌else◌, nat_le}
+use Rattle.std.proofs.Common.{add-suc, add-zero, suc-add, zero-add, arith, pow_mono}
+use Rattle.std.proofs.lemmas.Bool.Decides.{nat_tests}
 
 -- 2 ^ k is the smallest power that is at least n
 pub record SmallestPower (n k : ℕ) : Type 0 where
@@ -11,7 +11,7 @@ pub record SmallestPower (n k : ℕ) : Type 0 where
 -- the first k from j on with 2 ^ k at least n, looked for among so many
 abbrev pub doublings_from : ℕ → ℕ → ℕ → ℕ
 doublings_from zero j n = j
-doublings_from (suc more) j n = let further = doublings_from more (suc j) n in cond (nat_le n (2 ^ j)) j further
+doublings_from (suc more) j n = let further = doublings_from more (suc j) n in if nat_le n (2 ^ j) then j else further
 
 -- n doublings are more than enough
 abbrev pub doublings_to : ℕ → ℕ
@@ -22,29 +22,22 @@ below_power zero = omega arith
 below_power (suc n) = omega (arith, below_power n)
 
 from_smallest : (more j n : ℕ) → n ≤ 2 ^ (more + j) → ((i : ℕ) → i < j → 2 ^ i < n) → SmallestPower n (doublings_from more j n)
-from_smallest zero j n far before = record { enough = rw zero-add at far; none_less = before }
-from_smallest (suc more) j n far before =
-    cond_both (nat_le n (2 ^ j)) j (doublings_from more (suc j) n) (SmallestPower n)
-    (λ e. record { enough = leb-true n (2 ^ j) e; none_less = before })
-    (λ e. from_smallest more (suc j) n (rw (add-suc, ← suc-add) far)
-    (λ i l. elim (cases_eq i j) [ inl same ↦ rw same (leb-false n (2 ^ j) e) | inr other ↦ before i (omega arith) ]))
+from_smallest zero j n far before = grind (arith, zero-add)
+from_smallest (suc more) j n far before = grind (arith, nat_tests, add-suc, suc-add, from_smallest more (suc j) n)
 
 pub doublings_smallest : (n : ℕ) → SmallestPower n (doublings_to n)
-doublings_smallest n = from_smallest n 0 n (rw add-zero (le_of_lt (below_power n))) (λ i l. absurd (omega arith))
+doublings_smallest n = from_smallest n 0 n (rw add-zero (omega (arith, below_power n))) (λ i l. omega arith)
 
 -- there is only one such number
 pub smallest_is : (n k : ℕ) → SmallestPower n k → k ≡ doublings_to n
 smallest_is n k h =
     let d = doublings_to n in
     let g = doublings_smallest n in
-    elim (cases_lt k d) [
-      | inl l ↦ absurd (omega (arith, h.enough, g.none_less k l))
-      | inr ge ↦ elim (cases_lt d k) [ inl l ↦ absurd (omega (arith, g.enough, h.none_less d l)) | inr le ↦ omega arith ]
-    ]
+    grind (arith, g.none_less k, h.none_less d)
 
 pub doublings_few : (n : ℕ) → doublings_to n ≤ n
-doublings_few n = elim (cases_lt n (doublings_to n)) [ inl l ↦ absurd (omega (arith, below_power n, (doublings_smallest n).none_less n l)) | inr ge ↦ ge ]
+doublings_few n = let g = doublings_smallest n in grind (arith, below_power n, g.none_less n)
 
 -- as long as a power is below n there are doublings left
 pub doublings_left : (n t : ℕ) → 2 ^ t < n → t < doublings_to n
-doublings_left n t small = elim (cases_lt t (doublings_to n)) [ inl l ↦ l | inr ge ↦ absurd (omega (arith, (doublings_smallest n).enough, pow_mono ge)) ]
+doublings_left n t small = let g = doublings_smallest n in grind (arith, pow_mono)

@@ -37,6 +37,7 @@ fn doublings(n: u8) -> u8
 impl Coin {
     // Where a try leads that found the register empty. From try 8 on every coin is low enough; where there are no stations
     // none tries, and the answer does not matter.
+    #[tactic(auto, using(crate::proofs::Powers::low_from_8))]
     fn after_empty(&self, number: u8, coin: u8) -> CoinPhase
         ensures { 0 < self.now.stations → result ≡ by_coin self.now.stations number coin }
     {

@@ -1,5 +1,5 @@
 -- A conciliator that only waits: so many reads of register 0, then the station adopts its own mark.
-use Rattle.std.specs.Prelude.{ℕ, ◌+◌, min, false, cond, None, nat_lt}
+use Rattle.std.specs.Prelude.{ℕ, ◌+◌, min, false, if◌then◌else◌, None, nat_lt}
 use Rattle.deciding.specs.declared.record.Outcome.TheVariants.{Adopt}
 use Rattle.machine.specs.declared.status.Plan.TheVariants.{Read}
 use Rattle.machine.specs.Turn.{Turn, On, End}
@@ -12,7 +12,7 @@ abbrev pub waiting_limit : Waiting → ℕ
 waiting_limit u = 1 + min u.more 999
 
 abbrev pub waiting_turn : Waiting → ℕ → ℕ → WaitingPhase → ℕ → ℕ → Turn WaitingPhase
-waiting_turn u s v (Wait i) x c = cond (nat_lt (i + 1) (waiting_limit u)) (On (Wait (i + 1))) (End (Adopt v))
+waiting_turn u s v (Wait i) x c = if nat_lt (i + 1) (waiting_limit u) then On (Wait (i + 1)) else End (Adopt v)
 
 abbrev pub waiting_conciliator : Protocol Waiting WaitingPhase
 waiting_conciliator = record {
