@@ -1,5 +1,3 @@
-#![tactic(auto, using(crate::proofs::CardLists::on_contents))]
-
 ghost use Rattle.std.specs.Prelude.{◌≡◌, ℕ, refl};
 ghost use Rattle.std.proofs.Common.{◌∙◌};
 ghost use Rattle.board.specs.Board.{Writes};
@@ -24,6 +22,7 @@ impl<'a> CardBoard<'a> {
     }
 
     // Where the first of a register's two bytes stands.
+    #[tactic(auto, using(crate::proofs::CardLists::on_contents))]
     fn place(&self, register: u16) -> Result<usize, Refusal>
         ensures { Placed self.now.bytes.now register result }
     {
@@ -43,6 +42,7 @@ impl<'a> Board for CardBoard<'a> {
 
     ghost steady = { record { same = λ x. (refl, beyond_same x.bytes.now); on = λ x y z p q. (q.0 ∙ p.0, beyond_on x.bytes.now y.bytes.now z.bytes.now p.1 q.1) } };
 
+    #[tactic(auto, using(crate::proofs::CardLists::on_contents))]
     fn count(&self) -> u16 {
         (self.bytes.len() / 2).min(64) as u16
     }
