@@ -69,10 +69,8 @@ fn vote(agree: bool, mark: u8) -> u16
 fn first_full(found: Option<u8>, content: u16) -> Option<u8>
     ensures { content ≤ 512 → result ≡ found_in found content }
 {
-    match found {
-        None if content != 0 && content % 2 == 0 => Some(mark_of(content / 2)),
-        _ => found,
-    }
+    let is_full = content != 0 && content % 2 == 0;
+    found.or_else(|| is_full.then(|| mark_of(content / 2)))
 }
 
 fn verdict(mark: u8, clean: bool, found: Option<u8>) -> Outcome

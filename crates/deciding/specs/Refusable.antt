@@ -38,6 +38,14 @@ abbrev pub state_made : {T S G : Type 0} → (T → S) → Result T (Refusal × 
 state_made f (Ok t) = Ok (f t)
 state_made f (Err e) = Err e.0
 
+-- a making that was refused with q left what was given to it as it was
+abbrev pub GivenBack : {T G : Type 0} → Option Refusal → G → Result T (Refusal × G) → Type 0
+GivenBack {T} {G} q given made = (r : Refusal) → q ≡ Some r → ◌≡◌ {A = Result T (Refusal × G)} made (Err (r, given))
+
+-- and so it stays
+abbrev pub StaysRefused : {T G : Type 0} → Result T (Refusal × G) → Result T (Refusal × G) → Type 0
+StaysRefused {T} {G} old new = (e : Refusal × G) → ◌≡◌ {A = Result T (Refusal × G)} old (Err e) → ◌≡◌ {A = Result T (Refusal × G)} new (Err e)
+
 module _ (m : Machine) where
   abbrev pub refusal_made : Refusable m.State → Option Refusal
   refusal_made (Ok x) = m.refused x

@@ -1,12 +1,13 @@
 ghost use Rattle.std.specs.Prelude.{◌≡◌};
-ghost use Rattle.deciding.specs.Refusable.{all_reached, refusable, refusable_deciding, state_made};
+ghost use Rattle.deciding.specs.Calls.{Entering, Stepping};
+ghost use Rattle.deciding.specs.Refusable.{StaysRefused, all_reached, refusable, refusable_deciding, state_made};
 
 use super::object::DecidingObject;
 use super::record::{Operation, Outcome, Record};
 use refusal::Refusal;
 
 // What a making leaves that asks questions: the object, or the first question that was answered no together with what was given
-// to the making. A refused one has no stations, and nothing to show.
+// to the making, G, so that a making asks of nobody that it can be dropped. A refused one has no stations, and nothing to show.
 #[derive(Drop)]
 pub struct Refusable<T, G> {
     made: Result<T, (Refusal, G)>,
@@ -59,14 +60,20 @@ impl<T: DecidingObject, G> DecidingObject for Refusable<T, G> {
     }
 
     // What is changed through `as_mut` is lost to the proof, so `enter` and `step` take it by a `match`.
-    fn enter(&mut self, station: u8, mark: u8) -> Result<(), Refusal> {
+    fn enter(&mut self, station: u8, mark: u8) -> Result<(), Refusal>
+        ensures calls { Entering (refusable T.machine) (state_made T.state self.old.made) station mark result (state_made T.state self.new.made) }
+        ensures given { StaysRefused self.old.made self.new.made }
+    {
         match &mut self.made {
             Ok(object) => object.enter(station, mark),
             Err(_) => Err(Refusal::NoSuchStation),
         }
     }
 
-    fn step(&mut self, station: u8, coin: u8) -> Result<(Operation, Option<Outcome>), Refusal> {
+    fn step(&mut self, station: u8, coin: u8) -> Result<(Operation, Option<Outcome>), Refusal>
+        ensures calls { Stepping (refusable T.machine) (state_made T.state self.old.made) station coin result (state_made T.state self.new.made) }
+        ensures given { StaysRefused self.old.made self.new.made }
+    {
         match &mut self.made {
             Ok(object) => object.step(station, coin),
             Err(_) => Err(Refusal::NoSuchStation),

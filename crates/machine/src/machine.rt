@@ -1,5 +1,5 @@
 ghost use Rattle.std.specs.Prelude.{◌≡◌, ℕ, ◌<◌, Bool, false, ◌&&◌, List, length, ◌==◌, nat_lt, slice_index, slice_index_or};
-ghost use Rattle.deciding.specs.Refusable.{granted};
+ghost use Rattle.deciding.specs.Refusable.{GivenBack, granted};
 ghost use Rattle.machine.specs.declared.status.Status.TheVariants.{Absent};
 ghost use Rattle.machine.specs.Protocol.{machine_of, running};
 ghost use Rattle.machine.specs.Making.{empty_below, refusal_of, made};
@@ -62,24 +62,18 @@ fn ask<P: Protocol, B: Board>(protocol: &P, board: &B) -> Result<(), Refusal>
 fn carry_out<B: Board>(board: &mut B, plan: Plan) -> Result<Operation, Refusal>
     ensures { Carried (B.Board.contents board.old) plan result (B.Board.contents board.new) }
 {
-    match plan {
-        Plan::Read(register) => {
-            let content = board.read(register)?;
-            Ok(Operation {
-                access: Access::Read,
-                register,
-                content,
-            })
-        }
+    let (access, register, content) = match plan {
+        Plan::Read(register) => (Access::Read, register, board.read(register)?),
         Plan::Write(register, content) => {
             board.write(register, content)?;
-            Ok(Operation {
-                access: Access::Write,
-                register,
-                content,
-            })
+            (Access::Write, register, content)
         }
-    }
+    };
+    Ok(Operation {
+        access,
+        register,
+        content,
+    })
 }
 
 // Moves a station's row on by one step, which met the content.
@@ -119,7 +113,8 @@ fn advance<P: Protocol>(
 impl<P: Protocol, B: Board> StepMachine<P, B> {
     // A machine on the board as it is, if the questions of its making pass.
     pub fn new(protocol: P, board: B) -> Refusable<StepMachine<P, B>, (P, B)>
-        ensures { ⟦<Refusable<StepMachine<P, B>, (P, B)> as DecidingObject>⟧.state result ≡ made P.Protocol.rules protocol (B.Board.contents board) }
+        ensures state { ⟦<Refusable<StepMachine<P, B>, (P, B)> as DecidingObject>⟧.state result ≡ made P.Protocol.rules protocol (B.Board.contents board) }
+        ensures given { GivenBack (refusal_of P.Protocol.rules protocol (B.Board.contents board)) (protocol, board) result.made }
     {
         Refusable::new(match ask(&protocol, &board) {
             Ok(()) => Ok(StepMachine {

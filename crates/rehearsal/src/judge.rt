@@ -42,10 +42,7 @@ fn judge_command(command: Command) -> Verdict
                 operand(operands, 1),
                 operand(operands, 2),
             );
-            match start {
-                Ok(start) => Verdict::Begins(start),
-                Err(refusal) => Verdict::Refuses(refusal),
-            }
+            start.map_or_else(Verdict::Refuses, Verdict::Begins)
         }
         Command::Enter(operands) => Verdict::Asks(Call::Enter {
             station: operand(operands, 0),

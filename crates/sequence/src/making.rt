@@ -1,5 +1,5 @@
 ghost use Rattle.std.specs.Prelude.{◌≡◌, ℕ, ◌+◌, nat_le};
-ghost use Rattle.deciding.specs.Refusable.{granted};
+ghost use Rattle.deciding.specs.Refusable.{GivenBack, granted};
 ghost use Rattle.sequence.specs.Making.{sequence_refusal};
 ghost use Rattle.sequence.specs.States.{SecondAfter, made_of};
 
@@ -41,6 +41,7 @@ impl<X: DecidingObject, Y: DecidingObject> Sequence<X, Y> {
     // The first object, then the second, if the questions of the making pass.
     pub fn new(first: X, second: Y) -> Refusable<Sequence<X, Y>, (X, Y)>
         ensures state { ⟦<Refusable<Sequence<X, Y>, (X, Y)> as DecidingObject>⟧.state result ≡ made_of X.DecidingObject Y.DecidingObject first second }
+        ensures given { GivenBack (sequence_refusal X.DecidingObject.machine Y.DecidingObject.machine (X.DecidingObject.state first) (Y.DecidingObject.state second)) (first, second) result.made }
         ensures after { SecondAfter X.DecidingObject Y.DecidingObject }
     {
         Refusable::new(match ask(&first, &second) {

@@ -10,8 +10,12 @@ use waiting::Waiting;
 
 type Part<P> = Refusable<StepMachine<P, CellBoard>, (P, CellBoard)>;
 
+fn part<P: Protocol>(protocol: P) -> Part<P> {
+    StepMachine::new(protocol, CellBoard::new())
+}
+
 fn collect_part(stations: u8) -> Part<Collect> {
-    StepMachine::new(Collect { stations }, CellBoard::new())
+    part(Collect { stations })
 }
 
 #[test]
@@ -32,13 +36,10 @@ fn all_records_of_the_parts_are_away(rt: HostRuntime) {
 }
 
 fn waiting_part(limit: u16) -> Part<Waiting> {
-    StepMachine::new(
-        Waiting {
-            stations: 1,
-            more: limit.saturating_sub(1),
-        },
-        CellBoard::new(),
-    )
+    part(Waiting {
+        stations: 1,
+        more: limit.saturating_sub(1),
+    })
 }
 
 #[test]

@@ -1,5 +1,5 @@
 ghost use Rattle.std.specs.Prelude.{◌≡◌};
-ghost use Rattle.deciding.specs.Refusable.{granted};
+ghost use Rattle.deciding.specs.Refusable.{GivenBack, granted};
 ghost use Rattle.trial.specs.Perform.{trial_refusal};
 ghost use Rattle.trial.specs.Trials.{Begun, made_of, tried, whole};
 
@@ -27,14 +27,14 @@ impl<D: DecidingObject> Trial<D> {
     // A trial of the pile, with nobody stopped. Where a question is answered no it has no stations.
     pub fn new(pile: D) -> Trial<D>
         ensures state { tried D.DecidingObject result ≡ made_of D.DecidingObject pile }
+        ensures given { GivenBack (trial_refusal D.DecidingObject.machine (D.DecidingObject.state pile)) pile result.pile.made }
         ensures begun { Begun D.DecidingObject result }
     {
-        let made = match ask(&pile) {
-            Ok(()) => Ok(pile),
-            Err(refusal) => Err((refusal, pile)),
-        };
         Trial {
-            pile: Refusable::new(made),
+            pile: Refusable::new(match ask(&pile) {
+                Ok(()) => Ok(pile),
+                Err(refusal) => Err((refusal, pile)),
+            }),
             stopped: [false; 16],
         }
     }

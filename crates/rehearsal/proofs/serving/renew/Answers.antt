@@ -19,7 +19,7 @@ returns-in-Quorum-clause-arrives c =
     let u = c.args.start in
     let n = u.stations in
     let start =
-    c.new-object.ensures ∙ ap (λ k. (bit_pairs_pile k (contents_of c.new.result.bytes.now)).start) c.new-bit_pairs.ensures
+    c.new-object.ensures.state ∙ ap (λ k. (bit_pairs_pile k (contents_of c.new.result.bytes.now)).start) c.new-bit_pairs.ensures
     ∙ ap (λ b. (bit_pairs_pile n (contents_of b.now)).start) c.new.ensures in
     pile_arrives (run_at c.args.reader.now c.args.listing.now) u c.begin-in-Quorum.result (run_at c.begin-in-Quorum.new.reader c.begin-in-Quorum.new.listing) (built name.Quorum n u.leader) _ (named u.pile name.Quorum n u.leader c.in-Quorum.is) start c.begin-in-Quorum.ensures.arrives
 
