@@ -44,7 +44,7 @@ impl<'a> Board for CardBoard<'a> {
 
     #[tactic(auto, using(crate::proofs::CardLists::on_contents))]
     fn count(&self) -> u16 {
-        (self.bytes.len() / 2).min(64) as u16
+        (self.bytes.len() / 2).min(64) as u16 // 64 at the most, so that no conversion can fail
     }
 
     fn look(&self, register: u16) -> Result<u16, Refusal> {

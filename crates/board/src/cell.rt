@@ -26,7 +26,7 @@ impl Board for CellBoard {
     ghost steady = { record { same = λ _. tt; on = λ _ _ _ _ _. tt } };
 
     fn count(&self) -> u16 {
-        self.cells.len() as u16
+        self.cells.len() as u16 // 64, so that no conversion can fail
     }
 
     fn look(&self, register: u16) -> Result<u16, Refusal> {

@@ -54,7 +54,7 @@ fn fits(expected: u16, content: u16) -> bool
     content == 0 || content == expected
 }
 
-// A vote for the mark: full where all agreed.
+// A vote for the mark: full where all agreed. Each of the two contents is its own, and not made from that of a mark.
 fn vote(agree: bool, mark: u8) -> u16
     ensures { result ≡ voting agree mark }
 {

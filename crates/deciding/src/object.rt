@@ -34,7 +34,7 @@ pub trait DecidingObject {
     fn ratifying(&self) -> bool
         ensures { result ≡ machine.ratifying (state self.now) };
 
-    // Why its making was refused, if it was.
+    // Why its making was refused, if it was: a value that is asked for, as the limit is.
     fn refused(&self) -> Option<Refusal>
         ensures { result ≡ machine.refused (state self.now) };
 

@@ -15,7 +15,7 @@ use deciding::record::{Access, Operation, Outcome, Record};
 use deciding::refusable::Refusable;
 use refusal::Refusal;
 
-// Up to sixteen stations that run one protocol on one board.
+// Up to sixteen stations that run one protocol on one board, in fixed memory.
 #[derive(Drop)]
 pub struct StepMachine<P: Protocol, B: Board> {
     protocol: P,

@@ -14,8 +14,8 @@ pub struct Proposer {
     pub proposal: u8,
 }
 
-// What every station of a machine does, step by step. A value of the type is the setup that all stations share;
-// a station's own place is its phase.
+// What every station of a machine does, step by step. A value of the type is the setup that all stations share; a station's own
+// place is its phase, which lies in a row and is read by proofs, as a closure could not.
 pub trait Protocol {
     type Phase: Copy;
 

@@ -15,7 +15,8 @@ use schedule::reader::Reader;
 pub const LONGEST: usize = 4096;
 
 // What a run answers: how many bytes of the schedule hold the commands that were done or refused before the one that
-// ended it, how many bytes of the listing were written, and what ended it, if not the end of the schedule.
+// ended it, how many bytes of the listing were written, and what ended it, if not the end of the schedule. The two numbers are told
+// of every run, so that this is no `Result`.
 #[derive(Clone, Copy)]
 pub struct Ran {
     pub consumed: usize,

@@ -30,7 +30,8 @@ use trial::call::{Answer, Call, Effect};
 type Served = ControlFlow<Option<Refusal>, Start>;
 
 // The functions of a run take its reader and its listing side by side. As two fields of one struct they would be lent through
-// it, and what is written two structs deep is lost to a proof when the structs end.
+// it, and what is written two structs deep is lost to a proof when the structs end. `renew` and `begin` need room for the line of
+// the pile, for which `judge` asked; a listing that is known to have room would be such a struct.
 
 // Carries out the schedule, and answers what ended it, if not its end.
 pub(super) fn finish(reader: &mut Reader, listing: &mut Listing) -> Option<Refusal>

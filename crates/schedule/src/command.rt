@@ -1,4 +1,5 @@
-// A command of a schedule, by its letter. Each case borrows its operands, one byte each, where they stand in the schedule.
+// A command of a schedule, by its letter. Each case borrows its operands, one byte each, as the part of the schedule in which they
+// stand: a command is shown by that part.
 #[derive(Clone, Copy)]
 pub enum Command<'a> {
     // N: a new pile, by its number; how many stations; which of them leads.

@@ -7,6 +7,7 @@ use refusal::Refusal;
 // Reads a schedule from its first byte on, one command after another.
 #[derive(Drop)]
 pub struct Reader<'a> {
+    // The whole of it, and not what is left, since a run tells how far it came.
     schedule: &'a [u8],
     position: usize,
 }
