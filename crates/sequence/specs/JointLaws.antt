@@ -10,37 +10,17 @@ use Rattle.deciding.specs.Laws.{Laws, mark, Proposes, Ends}
 use Rattle.sequence.specs.Joint.{joined, Link}
 
 pub proposes_first : (a b : Record) (v : ℕ) → Proposes (joined a b) v → Proposes a v
-proposes_first Away b v h = h
-proposes_first (UnderWay p k) b v h = h
-proposes_first (Answered p k (Commit u)) b v h = h
-proposes_first (Answered p k (Adopt u)) Away v h = h
-proposes_first (Answered p k (Adopt u)) (UnderWay w j) v h = h
-proposes_first (Answered p k (Adopt u)) (Answered w j o) v h = h
+proposes_first a b v h = grind arith
 
 pub proposes_joined : (a b : Record) (v : ℕ) → Proposes a v → Proposes (joined a b) v
-proposes_joined Away b v h = h
-proposes_joined (UnderWay p k) b v h = h
-proposes_joined (Answered p k (Commit u)) b v h = h
-proposes_joined (Answered p k (Adopt u)) Away v h = h
-proposes_joined (Answered p k (Adopt u)) (UnderWay w j) v h = h
-proposes_joined (Answered p k (Adopt u)) (Answered w j o) v h = h
+proposes_joined a b v h = grind arith
 
 pub away_first : (a b : Record) → joined a b ≡ Away → a ≡ Away
-away_first Away b e = refl
-away_first (UnderWay p k) b e = cc
-away_first (Answered p k (Commit u)) b e = cc
-away_first (Answered p k (Adopt u)) Away e = cc
-away_first (Answered p k (Adopt u)) (UnderWay w j) e = cc
-away_first (Answered p k (Adopt u)) (Answered w j o) e = cc
+away_first a b e = grind arith
 
 -- a proposal in the second part is the mark adopted in the first
 pub adopted : (a b : Record) (w : ℕ) → Link a b → Proposes b w → Ends a (Adopt w)
-adopted Away b w l h = absurd (subst (λ (r : Record). Proposes r w) l h)
-adopted (UnderWay p k) b w l h = absurd (subst (λ (r : Record). Proposes r w) l h)
-adopted (Answered p k (Commit u)) b w l h = absurd (subst (λ (r : Record). Proposes r w) l h)
-adopted (Answered p k (Adopt u)) Away w l h = absurd h
-adopted (Answered p k (Adopt u)) (UnderWay q j) w l h = cc
-adopted (Answered p k (Adopt u)) (Answered q j o) w l h = cc
+adopted a b w l h = grind arith
 
 -- an outcome of the sequence is a commit of the first part, or an outcome of the second
 pub data Outcomes (a b : Record) (o : Outcome) : Type 0 where
