@@ -1,6 +1,6 @@
 -- The making of a sequence, and the questions that it asks of its parts, in this order: has each 1 to 16 stations, have both as
 -- many, are all records away, are the joined limit and registers at most 1,000.
-use Rattle.std.specs.Prelude.{◌≡◌, ℕ, ◌+◌, Bool, true, false, cond, ◌&&◌, Some, None, Option, ◌==◌, nat_le, refl}
+use Rattle.std.specs.Prelude.{◌≡◌, ◌+◌, Bool, true, false, cond, ◌&&◌, Some, None, Option, ◌==◌, nat_le, refl}
 use Rattle.std.proofs.Common.{arith, sym}
 use Rattle.std.proofs.lemmas.Bool.{and_parts, eqb-true, leb-true}
 use Rattle.refusal.specs.declared.Refusal.{Refusal}
@@ -44,10 +44,10 @@ module _ (m n : Machine) (x : m.State) (y : n.State) where
 all_asked : (a b c d : Bool) → cond a (cond b (cond c (cond d None (Some TooLarge)) (Some NotAllAway)) (Some StationsDiffer)) (Some StationCount) ≡ None →
     (a ≡ true) × (b ≡ true) × (c ≡ true) × (d ≡ true)
 all_asked true true true true h = (refl, refl, refl, refl)
-all_asked true true true false h = let z : ◌≡◌ {A = ℕ} 0 1 = cc in absurd (omega arith)
-all_asked true true false d h = let z : ◌≡◌ {A = ℕ} 0 1 = cc in absurd (omega arith)
-all_asked true false c d h = let z : ◌≡◌ {A = ℕ} 0 1 = cc in absurd (omega arith)
-all_asked false b c d h = let z : ◌≡◌ {A = ℕ} 0 1 = cc in absurd (omega arith)
+all_asked true true true false h = cc
+all_asked true true false d h = cc
+all_asked true false c d h = cc
+all_asked false b c d h = cc
 
 module _ (m n : Machine) (d : Deciding m) (e : Deciding n) (x : m.State) (y : n.State) (reached_x : d.Reached x) (reached_y : e.Reached y) where
   -- parts whose questions pass go together
