@@ -9,9 +9,6 @@ use Rattle.deciding.specs.declared.record.Record.TheVariants.{Away, UnderWay, An
 use Rattle.deciding.specs.Laws.{Laws, mark, Proposes, Ends}
 use Rattle.sequence.specs.Joint.{joined, Link}
 
-pub proposes_first : (a b : Record) (v : ℕ) → Proposes (joined a b) v → Proposes a v
-proposes_first a b v h = grind arith
-
 pub proposes_joined : (a b : Record) (v : ℕ) → Proposes a v → Proposes (joined a b) v
 proposes_joined a b v h = grind arith
 
@@ -54,7 +51,10 @@ module _ (L K : ℕ) (x y : Bool) (f g : ℕ → Record) (linked : (s : ℕ) →
   joined_laws = record {
     small = λ s v h. grind (arith, first_laws.small s v);
     valid = λ s o h. let (t, p) = valid s o h in (t, proposes_joined (f t) (g t) (mark o) p);
-    coherent = λ s t u o c h. grind (arith, λ (e : Ends (f s) (Commit u)). settled s u e t o, λ (e : Ends (f t) (Commit (mark o))). settled t (mark o) e s (Commit u), first_laws.coherent s t u o, second_laws.coherent s t u o);
+    coherent = λ s t u o c h.
+        let here = λ (e : Ends (f s) (Commit u)). settled s u e t o in
+        let there = λ (e : Ends (f t) (Commit (mark o))). settled t (mark o) e s (Commit u) in
+        grind (arith, here, there, first_laws.coherent s t u o, second_laws.coherent s t u o);
     bounded = λ s v k e. grind (arith, linked s, first_laws.bounded s, first_laws.bounded_end s, second_laws.bounded s);
     bounded_end = λ s v k o e. grind (arith, first_laws.bounded_end s, second_laws.bounded_end s);
     ratifies = λ r v same s o h.
