@@ -53,15 +53,7 @@ pub record Laws (limit : ℕ) (ratifying : Bool) (record_of : ℕ → Record) : 
 
 -- where all records are away the laws hold, whatever the rest
 pub away_laws : (ratifying : Bool) → Laws 0 ratifying (λ s. Away)
-away_laws ratifying = record {
-  small = λ s v h. absurd h;
-  valid = λ s o h. absurd h;
-  coherent = λ s t u o h k. absurd h;
-  bounded = λ s v k e. cc;
-  bounded_end = λ s v k o e. cc;
-  ratifies = λ e v same s o h. absurd h;
-  never = λ e s o h. absurd h;
-}
+away_laws ratifying = grind arith
 
 -- THE LAWS, where they merely hold: each says one thing, but validity, whose station is found among the first n
 

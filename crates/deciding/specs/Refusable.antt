@@ -73,6 +73,9 @@ module _ (m : Machine) (d : Deciding m) where
   reached_prop (Ok x) = d.reached_prop x
   reached_prop (Err r) = λ a b. refl
 
+  beside_made : {s : ℕ} {x y : m.State} → Beside m s x y → Beside (refusable m) s (Ok x) (Ok y)
+  beside_made b = record { stations = b.stations; limit = b.limit; registers = b.registers; ratifying = b.ratifying; refused = b.refused; others = b.others }
+
   nobody : {P : Type 0} {s : ℕ} → s < 0 → P
   nobody below = absurd (omega (arith, below))
 
@@ -88,9 +91,7 @@ module _ (m : Machine) (d : Deciding m) where
     enter_reached (Err q) r e = tt
 
     pub enter_beside : (x : Refusable m.State) → RefusableReached x → Enter x → Beside (refusable m) s x (enter_made m x s v)
-    enter_beside (Ok x) r e =
-        let b = d.enter_beside x s v r (enters x e) in
-        record { stations = b.stations; limit = b.limit; registers = b.registers; ratifying = b.ratifying; refused = b.refused; others = b.others }
+    enter_beside (Ok x) r e = beside_made (d.enter_beside x s v r (enters x e))
     enter_beside (Err q) r e = nobody e.below
 
     pub enter_own : (x : Refusable m.State) → RefusableReached x → Enter x → (refusable m).record_of (enter_made m x s v) s ≡ UnderWay v 0
@@ -109,9 +110,7 @@ module _ (m : Machine) (d : Deciding m) where
     step_reached (Err q) r e = tt
 
     pub step_beside : (x : Refusable m.State) → RefusableReached x → Stepping x → Beside (refusable m) s x (step_made m x s c).next
-    step_beside (Ok x) r e =
-        let b = d.step_beside x s c v k r (steps x e) in
-        record { stations = b.stations; limit = b.limit; registers = b.registers; ratifying = b.ratifying; refused = b.refused; others = b.others }
+    step_beside (Ok x) r e = beside_made (d.step_beside x s c v k r (steps x e))
     step_beside (Err q) r e = nobody e.below
 
     pub step_own : (x : Refusable m.State) → RefusableReached x → Stepping x → (refusable m).record_of (step_made m x s c).next s ≡ stepped (UnderWay v k) (step_made m x s c).outcome
@@ -127,10 +126,7 @@ module _ (m : Machine) (d : Deciding m) where
 
   pub sized : (x : Refusable m.State) → RefusableReached x → Sized (refusal_made m x) ((refusable m).stations x) ((refusable m).limit x) ((refusable m).registers x) ((refusable m).ratifying x)
   sized (Ok x) r = d.sized x r
-  sized (Err q) r = record {
-    made = λ h. cc;
-    unmade = λ _ _. record { no_stations = refl; no_steps = refl; no_registers = refl; not_ratifying = refl };
-  }
+  sized (Err q) r = grind arith
 
   pub laws : (x : Refusable m.State) → RefusableReached x → Laws ((refusable m).limit x) ((refusable m).ratifying x) ((refusable m).record_of x)
   laws (Ok x) r = d.laws x r

@@ -53,8 +53,7 @@ module _ {Setup Phase : Type 0} (p : Protocol Setup Phase) {Meets : Phase → �
 
     -- the row that is lent is the station's
     lent_is : (i : ℕ) (d : Status Phase) → i ≡ s → get_or x.table i d ≡ Running v k ph
-    lent_is i d same =
-        get_or_default x.table i d Absent (omega (arith, in_table)) ∙ cc
+    lent_is i d same = get_or_default x.table i d Absent (omega (arith, in_table)) ∙ cc
 
     stepping_on : stepping (machine_of p) x s c ≡ (let n = step_from p x s c v k ph in record { answer = Ok (n.operation, n.outcome); state = n.next })
     stepping_on = rw (seat, is) refl
@@ -65,8 +64,7 @@ module _ {Setup Phase : Type 0} (p : Protocol Setup Phase) {Meets : Phase → �
         let y = running x.setup ys (set x.table i row) in Stepping (machine_of p) x s c (Ok (op, outcome)) y × (running_deciding p kept).Reached y
     steps_on phases plan op ys i d outcome row planned oped left same advanced =
         let advances = subst (λ (r : Status Phase). Advances p Meets x.setup s op.content c r outcome row) (lent_is i d same) advanced in
-        let content : op.content ≡ content_of x.contents (p.plan x.setup s v ph) =
-        grind arith in
+        let content : op.content ≡ content_of x.contents (p.plan x.setup s v ph) = grind arith in
         let turn = p.turn x.setup s v ph op.content c in
         let (out, row_is) = ∥∥₁_elim {P = (outcome ≡ outcome_of turn) × (row ≡ status_after v k turn)} merely (×_prop (hlevel props) (hlevel (props, phases))) (λ good.
         let met = kept.meets x.setup x.contents x.table s v k ph good.inv below is in

@@ -1,9 +1,9 @@
 -- A protocol with an invariant gives a deciding object on every board, and every making begins one. Assumes nothing.
-use Rattle.std.specs.Prelude.{◌≡◌, ℕ, ◌<◌, ◌≤◌, true, List, length, None, Decides, ◌==◌, slice_index, slice_index_or, slice_set, refl}
+use Rattle.std.specs.Prelude.{◌≡◌, ℕ, ◌<◌, ◌≤◌, true, List, length, None, Decides, ◌==◌, replicate, slice_index, slice_index_or, slice_set, refl}
 use Rattle.std.proofs.Common.{ap, ◌∙◌, inl, inr, arith, length-set}
 use Rattle.std.proofs.Math.Logic.{∥∥₁_elim, ∥∥₁_map}
 use Rattle.std.specs.Coded.{le_prop}
-use Rattle.std.proofs.Math.ListN.{get_or-eq_default}
+use Rattle.std.proofs.Math.ListN.{get_or-eq_default, length-replicate}
 use Rattle.std.proofs.lemmas.List.{get_or-set_same, get_or-set_other, get_or-replicate}
 use Rattle.std.proofs.lemmas.Bool.{cases_lt}
 use Rattle.std.proofs.lemmas.Bool.Decides.{Decides-below_and, nat_tests}
@@ -124,13 +124,15 @@ module _ {Setup Phase : Type 0} (p : Protocol Setup Phase) {Meets : Phase → �
   kept_deciding = refusable_deciding (machine_of p) running_deciding
 
 -- THE MAKING
+-- a list of one value, with that value past its end too
+pub all_default : {A : Type 0} (k : ℕ) (x : A) (i : ℕ) → slice_index_or (replicate k x) i x ≡ x
+all_default k x i = elim (cases_lt i k) [ inl h ↦ get_or-replicate k i x x h | inr h ↦ get_or-eq_default (replicate k x) x (omega (arith, length-replicate k x)) ]
+
+-- the first k contents are empty just where each passes the test
 pub empties : (xs : List ℕ) (k : ℕ) → Decides (empty_below xs k) ((i : ℕ) → i < k → (slice_index xs i == 0) ≡ true)
 empties xs k = Decides-below_and (λ i. slice_index xs i == 0) (λ i. (slice_index xs i == 0) ≡ true) (empty_below xs) (λ i. (λ e. e, λ e. e)) refl (λ _. refl) k
 
 module _ {Setup Phase : Type 0} (p : Protocol Setup Phase) {Meets : Phase → ℕ → Type 0} (kept : Kept p Meets) (u : Setup) (xs : List ℕ) where
-  no_row : (s : ℕ) → slice_index_or (fresh p u xs).table s Absent ≡ Absent
-  no_row s = elim (cases_lt s rows) [ inl h ↦ get_or-replicate rows s Absent Absent h | inr h ↦ get_or-eq_default (fresh p u xs).table Absent h ]
-
   fresh_good : refusal_of p u xs ≡ None → Good p kept (fresh p u xs)
   fresh_good none =
       let few : one_to_sixteen (p.stations u) ≡ true = grind arith in
@@ -139,8 +141,8 @@ module _ {Setup Phase : Type 0} (p : Protocol Setup Phase) {Meets : Phase → �
       record {
         some = grind (arith, nat_tests);
         fitting = fits;
-        past = λ s _. no_row s;
-        inv = kept.new u xs (fresh p u xs).table fits (λ i l. grind (arith, nat_tests, (empties xs (p.registers u)).0 empty i l)) no_row;
+        past = λ s _. all_default rows Absent s;
+        inv = kept.new u xs (fresh p u xs).table fits (λ i l. grind (arith, nat_tests, (empties xs (p.registers u)).0 empty i l)) (all_default rows Absent);
       }
 
   -- a making whose questions pass begins a machine that is reached
