@@ -1,34 +1,23 @@
 -- A chain over the numbers below a bound, which asks whether a test passes on each of them.
-use Rattle.std.specs.Prelude.{◌≡◌, ℕ, ◌<◌, Bool, true, false, List, length, Option, Decides, slice_index, refl}
+use Rattle.std.specs.Prelude.{◌≡◌, ℕ, ◌<◌, Bool, true, false, List, length, Option, Decides, refl}
 use Rattle.std.specs.Bool.{MatchBool}
 use Rattle.std.specs.Fn.{Called}
 use Rattle.std.specs.Iterator.{YieldsThen}
 use Rattle.std.specs.List.{range_with_len, FoldsTo, AllWithin, HoldsAt}
 use Rattle.std.specs.Option.{MatchOption}
-use Rattle.std.proofs.Common.{sym, ◌∙◌, subst, zero-add, arith}
+use Rattle.std.proofs.Common.{arith}
 use Rattle.std.proofs.iter.Yields.{nat_range_steps}
-use Rattle.std.proofs.lemmas.Bool.{true≢false}
 use Rattle.std.proofs.lemmas.Iterator.{cases_from_all, YieldsList-from_range}
 use Rattle.std.proofs.lemmas.List.FromFn.{length-range_with_len, get_or-range_with_len}
 use Rattle.std.specs.declared.ops.Range.{Range}
 use denote.Param.Members.{Mut}
 
-item : (n k : ℕ) → k < n → slice_index (range_with_len 0 n) k ≡ k
-item n k below = get_or-range_with_len 0 n k 0 below ∙ zero-add k
-
 decided : (n : ℕ) (p : ℕ → Bool) (r : Bool) →
     MatchBool r (AllWithin (λ k. p k ≡ true) (range_with_len 0 n) 0 (length (range_with_len 0 n)))
     ((k : ℕ) × (k < length (range_with_len 0 n)) × HoldsAt (λ k. p k ≡ false) (range_with_len 0 n) k) →
     Decides r ((k : ℕ) → k < n → p k ≡ true)
-decided n p true all = (
-  λ _ k below. subst (λ (j : ℕ). p j ≡ true) (item n k below) (all k 0 (omega arith) (omega (arith, length-range_with_len 0 n))),
-  λ _. refl,
-)
-decided n p false some =
-    let (k, below, fails) = some in
-    let small : k < n = omega (arith, length-range_with_len 0 n) in
-    let off : p k ≡ false = subst (λ (j : ℕ). p j ≡ false) (item n k small) (fails 0) in
-    (λ e. absurd (true≢false (sym e)), λ every. absurd (true≢false (sym (every k small) ∙ off)))
+decided n p true all = (λ _ k below. grind (arith, length-range_with_len 0 n, get_or-range_with_len 0 n k 0, all k 0, below), λ _. refl)
+decided n p false (k, below, fails) = (λ e. cc, λ every. grind (arith, length-range_with_len 0 n, get_or-range_with_len 0 n k 0, every k, fails 0, below))
 
 -- what `(0..n).all(..)` answers, where the closure f answers the test p of every number
 pub all_below : {F : Type 0} {g : Mut F (ℕ × Unit {0}) Bool} (s u : Range ℕ) (f : F) (n : ℕ) (p : ℕ → Bool) (r : Bool) → s ≡ record { start = 0; end = n } →

@@ -1,7 +1,7 @@
 -- What a call answers and leaves: it is refused by the first of its questions that is answered no, and then the state stays.
-use Rattle.std.specs.Prelude.{◌≡◌, ℕ, ◌<◌, Bool, true, false, Ok, Err, Option, Result, nat_lt, refl}
-use Rattle.std.proofs.Common.{sym, subst}
-use Rattle.std.proofs.lemmas.Bool.{ltb-true}
+use Rattle.std.specs.Prelude.{◌≡◌, ℕ, ◌<◌, Bool, true, false, Ok, Err, Option, Result, nat_lt}
+use Rattle.std.proofs.Common.{arith}
+use Rattle.std.proofs.lemmas.Bool.Decides.{nat_tests}
 use Rattle.refusal.specs.declared.Refusal.{Refusal}
 use Rattle.refusal.specs.declared.Refusal.TheVariants.{NoSuchStation, AlreadyEntered, NotEntered, AlreadyAnswered}
 use Rattle.deciding.specs.declared.record.Outcome.{Outcome}
@@ -50,21 +50,12 @@ Stepping m x s c r y = (r ≡ (stepping m x s c).answer) × (y ≡ (stepping m x
 
 -- what is reached remains so, whatever call is made
 module _ (m : Machine) (d : Deciding m) (x : m.State) (s : ℕ) (reached : d.Reached x) where
-  entry_reached : (v : ℕ) (b : Bool) (r : Record) → v < marks → (b ≡ true → s < m.stations x) → m.record_of x s ≡ r → d.Reached (entry_by m x s v b r).state
-  entry_reached v false r small below is = reached
-  entry_reached v true Away small below is = d.enter_reached x s v reached (record { below = below refl; away = is; small = small })
-  entry_reached v true (UnderWay p k) small below is = reached
-  entry_reached v true (Answered p k o) small below is = reached
-
   pub entering_keeps : (v : ℕ) (r : Result (Unit {0}) Refusal) (y : m.State) → v < marks → Entering m x s v r y → Entering m x s v r y × d.Reached y
   entering_keeps v r y small e =
-      (e, subst d.Reached (sym e.1) (entry_reached v (nat_lt s (m.stations x)) (m.record_of x s) small (ltb-true s (m.stations x)) refl))
-
-  step_reached : (c : ℕ) (b : Bool) (r : Record) → (b ≡ true → s < m.stations x) → m.record_of x s ≡ r → d.Reached (step_by m x (m.step x s c) b r).state
-  step_reached c false r below is = reached
-  step_reached c true Away below is = reached
-  step_reached c true (UnderWay v k) below is = d.step_reached x s c v k reached (record { below = below refl; under_way = is })
-  step_reached c true (Answered v k o) below is = reached
+      let entered = λ (l : s < m.stations x) (is : m.record_of x s ≡ Away). d.enter_reached x s v reached (record { below = l; away = is; small = small }) in
+      (e, grind (arith, nat_tests, reached, entered))
 
   pub stepping_keeps : (c : ℕ) (r : Result (Operation × Option Outcome) Refusal) (y : m.State) → Stepping m x s c r y → Stepping m x s c r y × d.Reached y
-  stepping_keeps c r y e = (e, subst d.Reached (sym e.1) (step_reached c (nat_lt s (m.stations x)) (m.record_of x s) (ltb-true s (m.stations x)) refl))
+  stepping_keeps c r y e =
+      let moved = λ (v k : ℕ) (l : s < m.stations x) (is : m.record_of x s ≡ UnderWay v k). d.step_reached x s c v k reached (record { below = l; under_way = is }) in
+      (e, grind (arith, nat_tests, reached, moved))

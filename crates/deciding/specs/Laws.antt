@@ -1,6 +1,6 @@
 -- The four laws of deciding objects, in terms of the records of their stations.
 use Rattle.std.specs.Prelude.{◌≡◌, ℕ, ◌+◌, ◌<◌, ◌≤◌, Bool, true, false, Some, None, Option, ◌⊎◌, zero, suc}
-use Rattle.std.proofs.Common.{arith, inl, inr, ⊎_elim}
+use Rattle.std.proofs.Common.{arith, inl, inr}
 use Rattle.std.proofs.Math.Logic.{∥∥₁_elim}
 use Rattle.std.proofs.Props.{props}
 use Rattle.std.proofs.lemmas.Bool.{cases_eq, cases_lt}
@@ -53,15 +53,7 @@ pub record Laws (limit : ℕ) (ratifying : Bool) (record_of : ℕ → Record) : 
 
 -- where all records are away the laws hold, whatever the rest
 pub away_laws : (ratifying : Bool) → Laws 0 ratifying (λ s. Away)
-away_laws ratifying = record {
-  small = λ s v h. absurd h;
-  valid = λ s o h. absurd h;
-  coherent = λ s t u o h k. absurd h;
-  bounded = λ s v k e. let z : ◌≡◌ {A = ℕ} 0 1 = cc in absurd (omega arith);
-  bounded_end = λ s v k o e. let z : ◌≡◌ {A = ℕ} 0 1 = cc in absurd (omega arith);
-  ratifies = λ e v same s o h. absurd h;
-  never = λ e s o h. absurd h;
-}
+away_laws ratifying = grind arith
 
 -- THE LAWS, where they merely hold: each says one thing, but validity, whose station is found among the first n
 
@@ -79,23 +71,16 @@ proposes_or (Answered p k o) v = cases_eq p v
 module _ (f : ℕ → Record) (v : ℕ) where
   proposer : (n : ℕ) → ((t : ℕ) × Proposes (f t) v) ⊎ ((t : ℕ) → t < n → Proposes (f t) v → ⊥)
   proposer zero = inr (λ t l h. absurd (omega (arith, l)))
-  proposer (suc n) = ⊎_elim
-      (λ (h : Proposes (f n) v). inl (n, h))
-      (λ (no : Proposes (f n) v → ⊥). ⊎_elim inl
-      (λ (none : (t : ℕ) → t < n → Proposes (f t) v → ⊥). inr (λ t l h. ⊎_elim
-      (λ (e : t ≡ n). no (rw e at h))
-      (λ (e : t ≡ n → ⊥). none t (omega (arith, l, e)) h)
-      (cases_eq t n)))
-      (proposer n))
-      (proposes_or (f n) v)
+  proposer (suc n) = elim (proposes_or (f n) v) [
+    | inl h ↦ inl (n, h)
+    | inr other ↦ elim (proposer n) [ inl some ↦ inl some | inr none ↦ inr (λ t l h. grind (arith, cases_eq t n, other, none t, l, h)) ]
+  ]
 
   found : (n : ℕ) → ((t : ℕ) → n ≤ t → f t ≡ Away) → ∥ ((t : ℕ) × Proposes (f t) v) ∥₁ → (t : ℕ) × Proposes (f t) v
-  found n away some = ⊎_elim (λ h. h)
-      (λ (none : (t : ℕ) → t < n → Proposes (f t) v → ⊥). absurd (∥∥₁_elim some (λ a b. absurd a) (λ h. ⊎_elim
-      (λ (l : h.0 < n). none h.0 l h.1)
-      (λ (l : n ≤ h.0). let is = away h.0 l in rw is at h.1)
-      (cases_lt h.0 n))))
-      (proposer n)
+  found n away some = elim (proposer n) [
+    | inl h ↦ h
+    | inr none ↦ absurd (∥∥₁_elim some (λ a b. absurd a) (λ h. grind (arith, cases_lt h.0 n, none h.0, away h.0, h.1)))
+  ]
 
 pub laws_found : (limit : ℕ) (ratifying : Bool) (f : ℕ → Record) (n : ℕ) → ((t : ℕ) → n ≤ t → f t ≡ Away) → ∥ Laws limit ratifying f ∥₁ → Laws limit ratifying f
 laws_found limit ratifying f n away merely = record {

@@ -1,8 +1,8 @@
 -- A making that may be refused. What it leaves is a state of the machine, or why it was refused: then it shows nothing at all. One
 -- text and one proof for every object whose making asks questions.
-use Rattle.std.specs.Prelude.{◌≡◌, ℕ, ◌<◌, ◌≤◌, true, false, Some, None, Ok, Err, Option, Result, nat_le, refl}
+use Rattle.std.specs.Prelude.{◌≡◌, ℕ, ◌<◌, ◌≤◌, true, false, Some, None, Ok, Err, Option, Result, refl}
 use Rattle.std.proofs.Common.{arith}
-use Rattle.std.proofs.lemmas.Bool.{and_parts, leb-true}
+use Rattle.std.proofs.lemmas.Bool.Decides.{nat_tests}
 use Rattle.refusal.specs.declared.Refusal.{Refusal}
 use Rattle.deciding.specs.declared.record.Access.TheVariants.{Read}
 use Rattle.deciding.specs.declared.record.Record.TheVariants.{Away, UnderWay}
@@ -25,8 +25,7 @@ granted None = Ok tt
 granted (Some r) = Err r
 
 pub was_granted : (q : Option Refusal) → ◌≡◌ {A = Result (Unit {0}) Refusal} (Ok tt) (granted q) → q ≡ None
-was_granted None e = refl
-was_granted (Some r) e = cc
+was_granted q e = grind arith
 
 -- what is told of the state, and what else where the making was refused
 abbrev pub where_made : {S A : Type 0} → (S → A) → A → Refusable S → A
@@ -82,6 +81,9 @@ module _ (m : Machine) (d : Deciding m) where
   reached_prop (Ok x) = d.reached_prop x
   reached_prop (Err r) = λ a b. refl
 
+  beside_made : {s : ℕ} {x y : m.State} → Beside m s x y → Beside (refusable m) s (Ok x) (Ok y)
+  beside_made b = record { stations = b.stations; limit = b.limit; registers = b.registers; ratifying = b.ratifying; refused = b.refused; others = b.others }
+
   nobody : {P : Type 0} {s : ℕ} → s < 0 → P
   nobody below = absurd (omega (arith, below))
 
@@ -97,9 +99,7 @@ module _ (m : Machine) (d : Deciding m) where
     enter_reached (Err q) r e = tt
 
     pub enter_beside : (x : Refusable m.State) → RefusableReached x → Enter x → Beside (refusable m) s x (enter_made m x s v)
-    enter_beside (Ok x) r e =
-        let b = d.enter_beside x s v r (enters x e) in
-        record { stations = b.stations; limit = b.limit; registers = b.registers; ratifying = b.ratifying; refused = b.refused; others = b.others }
+    enter_beside (Ok x) r e = beside_made (d.enter_beside x s v r (enters x e))
     enter_beside (Err q) r e = nobody e.below
 
     pub enter_own : (x : Refusable m.State) → RefusableReached x → Enter x → (refusable m).record_of (enter_made m x s v) s ≡ UnderWay v 0
@@ -118,9 +118,7 @@ module _ (m : Machine) (d : Deciding m) where
     step_reached (Err q) r e = tt
 
     pub step_beside : (x : Refusable m.State) → RefusableReached x → Stepping x → Beside (refusable m) s x (step_made m x s c).next
-    step_beside (Ok x) r e =
-        let b = d.step_beside x s c v k r (steps x e) in
-        record { stations = b.stations; limit = b.limit; registers = b.registers; ratifying = b.ratifying; refused = b.refused; others = b.others }
+    step_beside (Ok x) r e = beside_made (d.step_beside x s c v k r (steps x e))
     step_beside (Err q) r e = nobody e.below
 
     pub step_own : (x : Refusable m.State) → RefusableReached x → Stepping x → (refusable m).record_of (step_made m x s c).next s ≡ stepped (UnderWay v k) (step_made m x s c).outcome
@@ -132,15 +130,11 @@ module _ (m : Machine) (d : Deciding m) where
     step_below (Err q) r e = nobody e.below
 
   pub away : (x : Refusable m.State) (s : ℕ) → RefusableReached x → (refusable m).stations x ≤ s → (refusable m).record_of x s ≡ Away
-  away (Ok x) s r past = d.away x s r past
-  away (Err q) s r past = refl
+  away x s r past = grind (arith, d.away)
 
   pub sized : (x : Refusable m.State) → RefusableReached x → Sized (refusal_made m x) ((refusable m).stations x) ((refusable m).limit x) ((refusable m).registers x) ((refusable m).ratifying x)
   sized (Ok x) r = d.sized x r
-  sized (Err q) r = record {
-    made = λ h. let z : ◌≡◌ {A = ℕ} 0 1 = cc in absurd (omega arith);
-    unmade = λ _ _. record { no_stations = refl; no_steps = refl; no_registers = refl; not_ratifying = refl };
-  }
+  sized (Err q) r = grind arith
 
   pub laws : (x : Refusable m.State) → RefusableReached x → Laws ((refusable m).limit x) ((refusable m).ratifying x) ((refusable m).record_of x)
   laws (Ok x) r = d.laws x r
@@ -164,16 +158,8 @@ module _ (m : Machine) (d : Deciding m) where
 
   -- where every object is reached, so is whatever a making leaves
   pub all_reached : {T G : Type 0} (state : T → m.State) → ((t : T) → d.Reached (state t)) → (made : Result T (Refusal × G)) → RefusableReached (state_made state made)
-  all_reached state every (Ok t) = every t
-  all_reached state every (Err e) = tt
+  all_reached state every made = grind (arith, every)
 
   -- an object with at least one station was not refused
   pub sizes_where_made : (x : m.State) → d.Reached x → one_to_sixteen (m.stations x) ≡ true → Sizes (m.stations x) (m.limit x) (m.registers x)
-  sizes_where_made x reached small = go (m.refused x) refl
-    where
-      some : 1 ≤ m.stations x
-      some = leb-true 1 (m.stations x) (and_parts (nat_le 1 (m.stations x)) (nat_le (m.stations x) 16) small).0
-
-      go : (q : Option Refusal) → m.refused x ≡ q → Sizes (m.stations x) (m.limit x) (m.registers x)
-      go None e = (d.sized x reached).made e
-      go (Some r) e = absurd (omega (arith, ((d.sized x reached).unmade r e).no_stations, some))
+  sizes_where_made x reached small = let sized = d.sized x reached in grind (arith, nat_tests, small, sized.made, sized.unmade)

@@ -1,3 +1,2 @@
-pub mod Empties
 pub mod Passing
 pub mod Seats

@@ -1,8 +1,9 @@
 -- A call of a station that is one, by what its row is.
-use Rattle.std.proofs.Common.{◌≡◌, ℕ, zero, suc, ◌<◌, true, ◌&&◌, ltb, List, [], ◌∷◌, length, get_or, set, Ok, Option, refl, ap, ◌∙◌, subst, sym, arith}
+use Rattle.std.proofs.Common.{◌≡◌, ℕ, ◌<◌, true, ◌&&◌, ltb, List, length, get_or, set, Ok, Option, refl, ap, ◌∙◌, subst, sym, arith}
 use Rattle.std.proofs.Math.Logic.{∥∥₁_elim}
 use Rattle.std.proofs.Props.{props}
 use Rattle.std.proofs.lemmas.Bool.{ltb-true, and_parts}
+use Rattle.std.proofs.lemmas.List.{get_or_default}
 use Rattle.std.specs.Coded.{le_prop, ×_prop}
 use Rattle.deciding.specs.declared.record.Operation.{Operation}
 use Rattle.deciding.specs.declared.record.Outcome.{Outcome}
@@ -11,26 +12,10 @@ use Rattle.deciding.specs.Calls.{entry, Entering, stepping, Stepping, entering_k
 use Rattle.machine.specs.declared.status.Status.{Status}
 use Rattle.machine.specs.declared.status.Status.TheVariants.{Absent, Running}
 use Rattle.machine.specs.declared.status.Plan.{Plan}
-use Rattle.machine.specs.declared.status.Plan.TheVariants.{Read, Write}
 use Rattle.machine.specs.Protocol.{Protocol, Running', shown, running, register_of, content_of, contents_after, operation_of, outcome_of, status_after, step_from, machine_of}
 use Rattle.machine.specs.Kept.{Kept}
 use Rattle.machine.specs.Rows.{Advances}
 use Rattle.machine.specs.Frame.{Good, running_deciding, running_good}
-
-get_or-any : {A : Type 0} (xs : List A) (i : ℕ) (d e : A) → i < length xs → get_or xs i d ≡ get_or xs i e
-get_or-any [] i d e l = absurd (omega arith)
-get_or-any (x ∷ xs) zero d e l = refl
-get_or-any (x ∷ xs) (suc i) d e l = get_or-any xs i d e (omega arith)
-
-operation_content : (xs : List ℕ) (plan : Plan) → (operation_of xs plan).content ≡ content_of xs plan
-operation_content xs (Read i) = refl
-operation_content xs (Write i w) = refl
-
-outcomes_prop : (a b : Option Outcome) → IsProp (a ≡ b)
-outcomes_prop a b = hlevel props
-
-status_prop : {Phase : Type 0} → IsSet Phase → (a b : Status Phase) → IsProp (a ≡ b)
-status_prop phases a b = hlevel (props, phases)
 
 module _ {Setup Phase : Type 0} (p : Protocol Setup Phase) {Meets : Phase → ℕ → Type 0} (kept : Kept p Meets)
     (x : Running' Setup Phase) (reached : (running_deciding p kept).Reached x) (s : ℕ) (seated : (ltb s (p.stations x.setup) && ltb s 16) ≡ true) where
@@ -68,8 +53,7 @@ module _ {Setup Phase : Type 0} (p : Protocol Setup Phase) {Meets : Phase → �
 
     -- the row that is lent is the station's
     lent_is : (i : ℕ) (d : Status Phase) → i ≡ s → get_or x.table i d ≡ Running v k ph
-    lent_is i d same =
-        get_or-any x.table i d Absent (omega (arith, in_table)) ∙ ap (λ (j : ℕ). get_or x.table j Absent) same ∙ is
+    lent_is i d same = get_or_default x.table i d Absent (omega (arith, in_table)) ∙ cc
 
     stepping_on : stepping (machine_of p) x s c ≡ (let n = step_from p x s c v k ph in record { answer = Ok (n.operation, n.outcome); state = n.next })
     stepping_on = rw (seat, is) refl
@@ -80,10 +64,9 @@ module _ {Setup Phase : Type 0} (p : Protocol Setup Phase) {Meets : Phase → �
         let y = running x.setup ys (set x.table i row) in Stepping (machine_of p) x s c (Ok (op, outcome)) y × (running_deciding p kept).Reached y
     steps_on phases plan op ys i d outcome row planned oped left same advanced =
         let advances = subst (λ (r : Status Phase). Advances p Meets x.setup s op.content c r outcome row) (lent_is i d same) advanced in
-        let content : op.content ≡ content_of x.contents (p.plan x.setup s v ph) =
-        ap (λ (o : Operation). o.content) oped ∙ operation_content x.contents plan ∙ ap (content_of x.contents) planned in
+        let content : op.content ≡ content_of x.contents (p.plan x.setup s v ph) = grind arith in
         let turn = p.turn x.setup s v ph op.content c in
-        let (out, row_is) = ∥∥₁_elim {P = (outcome ≡ outcome_of turn) × (row ≡ status_after v k turn)} merely (×_prop (outcomes_prop _ _) (status_prop phases _ _)) (λ good.
+        let (out, row_is) = ∥∥₁_elim {P = (outcome ≡ outcome_of turn) × (row ≡ status_after v k turn)} merely (×_prop (hlevel props) (hlevel (props, phases))) (λ good.
         let met = kept.meets x.setup x.contents x.table s v k ph good.inv below is in
         advances below (subst (Meets ph) (sym content) met) steps_few) in
         let step = stepping_on in

@@ -1,28 +1,23 @@
 -- A protocol with an invariant gives a deciding object on every board, and every making begins one. Assumes nothing.
-use Rattle.std.specs.Prelude.{◌≡◌, ℕ, ◌<◌, ◌≤◌, Bool, true, false, cond, List, length, Some, None, Decides, Option, nat_eq, nat_le, slice_index, slice_index_or, slice_set, refl}
+use Rattle.std.specs.Prelude.{◌≡◌, ℕ, ◌<◌, ◌≤◌, true, List, length, None, Decides, ◌==◌, replicate, slice_index, slice_index_or, slice_set, refl}
 use Rattle.std.proofs.Common.{ap, ◌∙◌, inl, inr, arith, length-set}
 use Rattle.std.proofs.Math.Logic.{∥∥₁_elim, ∥∥₁_map}
 use Rattle.std.specs.Coded.{le_prop}
-use Rattle.std.proofs.Math.ListN.{get_or-eq_default}
+use Rattle.std.proofs.Math.ListN.{get_or-eq_default, length-replicate}
 use Rattle.std.proofs.lemmas.List.{get_or-set_same, get_or-set_other, get_or-replicate}
-use Rattle.std.proofs.lemmas.Bool.{leb-true, cases_lt, and_parts}
-use Rattle.std.proofs.lemmas.Bool.Decides.{Decides-eqb, Decides-below_and}
-use Rattle.refusal.specs.declared.Refusal.{Refusal}
-use Rattle.refusal.specs.declared.Refusal.TheVariants.{StationCount, TooFewRegisters, RegistersInUse}
+use Rattle.std.proofs.lemmas.Bool.{cases_lt}
+use Rattle.std.proofs.lemmas.Bool.Decides.{Decides-below_and, nat_tests}
 use Rattle.deciding.specs.declared.record.Record.TheVariants.{Away, UnderWay}
 use Rattle.deciding.specs.Laws.{stepped, record_prop, laws_found}
 use Rattle.deciding.specs.Machine.{Step, Beside, Enters, Steps}
-use Rattle.deciding.specs.Sizes.{Sizes, one_to_sixteen, sizes_prop}
+use Rattle.deciding.specs.Sizes.{one_to_sixteen, sizes_prop}
 use Rattle.deciding.specs.Deciding.{Deciding}
-use Rattle.deciding.specs.Refusable.{refusable, refusable_deciding, with_refusal}
+use Rattle.deciding.specs.Refusable.{refusable, refusable_deciding}
 use Rattle.machine.specs.declared.status.Status.{Status}
 use Rattle.machine.specs.declared.status.Status.TheVariants.{Absent, Running, Done}
-use Rattle.machine.specs.Turn.{Turn, On, End}
-use Rattle.machine.specs.declared.status.Plan.{Plan}
-use Rattle.machine.specs.declared.status.Plan.TheVariants.{Read, Write}
-use Rattle.machine.specs.Protocol.{Protocol, Running', running, shown, register_of, contents_after, operation_of, status_after, outcome_of, step_from, machine_of}
-use Rattle.machine.specs.Kept.{rows, Within, Fitting, Kept}
-use Rattle.machine.specs.Making.{empty_below, first_of, refusal_of, fresh, made}
+use Rattle.machine.specs.Protocol.{Protocol, Running', running, shown, step_from, machine_of}
+use Rattle.machine.specs.Kept.{rows, Fitting, Kept}
+use Rattle.machine.specs.Making.{empty_below, refusal_of, fresh, made}
 
 -- from two constructors that are equal, by `cc`, anything
 pub clash : {A : Type 0} → ◌≡◌ {A = ℕ} 0 1 → A
@@ -30,37 +25,10 @@ clash e = absurd (omega arith)
 
 -- WHAT A ROW SHOWS
 module _ {P : Type 0} where
-  row_absent : (row : Status P) → shown row ≡ Away → row ≡ Absent
-  row_absent Absent e = refl
-  row_absent (Running v k ph) e = cc
-  row_absent (Done v k o) e = cc
-
   row_running : (row : Status P) (v k : ℕ) → shown row ≡ UnderWay v k → (ph : P) × (row ≡ Running v k ph)
-  row_running Absent v k e = clash (cc)
+  row_running Absent v k e = cc
   row_running (Running w j ph) v k e = (ph, cc)
-  row_running (Done w j o) v k e = clash (cc)
-
-  shown_after : (v k : ℕ) (turn : Turn P) → shown (status_after v k turn) ≡ stepped (UnderWay v k) (outcome_of turn)
-  shown_after v k (On ph) = refl
-  shown_after v k (End o) = refl
-
-operation_register : (xs : List ℕ) (plan : Plan) → (operation_of xs plan).register ≡ register_of plan
-operation_register xs (Read i) = refl
-operation_register xs (Write i w) = refl
-
-contents_length : (xs : List ℕ) (plan : Plan) → length (contents_after xs plan) ≡ length xs
-contents_length xs (Read i) = refl
-contents_length xs (Write i w) = length-set xs i w
-
-both_within : (n limit registers : ℕ) → 1 ≤ n → n ≤ rows → Within limit × Within registers → Sizes n limit registers
-both_within n limit registers some few within = record {
-  some_stations = some;
-  few_stations = few;
-  some_steps = within.0.0;
-  few_steps = within.0.1;
-  some_registers = within.1.0;
-  few_registers = within.1.1;
-}
+  row_running (Done w j o) v k e = cc
 
 -- THE STATES of a machine whose making passed
 pub record Good {Setup Phase : Type 0} (p : Protocol Setup Phase) {Meets : Phase → ℕ → Type 0} (kept : Kept p Meets) (x : Running' Setup Phase) : Type 0 where
@@ -100,7 +68,7 @@ module _ {Setup Phase : Type 0} (p : Protocol Setup Phase) {Meets : Phase → �
   enter_good : (x : Running' Setup Phase) (s v : ℕ) → Good p kept x → Enters (machine_of p) x s v → Good p kept ((machine_of p).enter x s v)
   enter_good x s v good e =
       after_good x s x.contents (Running v 0 p.begun) good e.below refl
-      (kept.enter_kept _ _ _ s v good.fitting good.inv e.below e.small (row_absent _ e.away))
+      (kept.enter_kept _ _ _ s v good.fitting good.inv e.below e.small (grind (arith, e.away)))
 
   module _ (x : Running' Setup Phase) (s c v k : ℕ) (e : Steps (machine_of p) x s v k) where
     -- what holds of the step as its phase has it holds of the step
@@ -113,15 +81,15 @@ module _ {Setup Phase : Type 0} (p : Protocol Setup Phase) {Meets : Phase → �
     module _ (good : Good p kept x) where
       step_good : Good p kept ((machine_of p).step x s c).next
       step_good = by_phase (λ r. Good p kept r.next) (λ ph is.
-          after_good x s _ _ good e.below (contents_length x.contents _) (kept.step_kept _ _ _ s c v k ph good.fitting good.inv e.below is))
+          after_good x s _ _ good e.below (grind (arith, length-set)) (kept.step_kept _ _ _ s c v k ph good.fitting good.inv e.below is))
 
       step_own : (machine_of p).record_of ((machine_of p).step x s c).next s ≡ stepped (UnderWay v k) ((machine_of p).step x s c).outcome
       step_own = by_phase (λ r. (machine_of p).record_of r.next s ≡ stepped (UnderWay v k) r.outcome) (λ ph is.
-          after_own x s x.contents _ good e.below ∙ shown_after v k _)
+          after_own x s x.contents _ good e.below ∙ grind arith)
 
       step_below : ((machine_of p).step x s c).operation.register < p.registers x.setup
       step_below = by_phase (λ r. r.operation.register < p.registers x.setup) (λ ph is.
-          omega (arith, operation_register x.contents (p.plan x.setup s v ph), kept.below _ _ _ s v k ph good.inv e.below is))
+          grind (arith, kept.below _ _ _ s v k ph good.inv e.below is))
 
   none_away : (x : Running' Setup Phase) (s : ℕ) → ∥ Good p kept x ∥₁ → p.stations x.setup ≤ s → (machine_of p).record_of x s ≡ Away
   none_away x s merely past = ∥∥₁_elim merely (record_prop _ _) (λ good. ap shown (good.past s past))
@@ -140,8 +108,8 @@ module _ {Setup Phase : Type 0} (p : Protocol Setup Phase) {Meets : Phase → �
     step_below = λ x s c v k merely e. ∥∥₁_elim merely le_prop (step_below x s c v k e);
     away = none_away;
     sized = λ x merely. record {
-      made = λ _. ∥∥₁_elim merely (sizes_prop _ _ _) (λ good. both_within _ _ _ good.some good.fitting.few (kept.within x.setup good.some good.fitting.few));
-      unmade = λ r e. clash (cc);
+      made = λ _. ∥∥₁_elim merely (sizes_prop _ _ _) (λ good. grind (arith, good.some, good.fitting.few, kept.within x.setup good.some good.fitting.few));
+      unmade = λ r e. cc;
     };
     laws = λ x merely. laws_found _ _ _ (p.stations x.setup) (λ s. none_away x s merely) (∥∥₁_map merely (λ good. kept.gives _ _ _ good.fitting good.past good.inv));
   }
@@ -156,31 +124,25 @@ module _ {Setup Phase : Type 0} (p : Protocol Setup Phase) {Meets : Phase → �
   kept_deciding = refusable_deciding (machine_of p) running_deciding
 
 -- THE MAKING
-all_asked : (a b c : Bool) (q : Option Refusal) →
-    cond a (first_of q (cond b (cond c None (Some RegistersInUse)) (Some TooFewRegisters))) (Some StationCount) ≡ None → (a ≡ true) × (b ≡ true) × (c ≡ true)
-all_asked true true true q e = (refl, refl, refl)
-all_asked true true false None e = clash (cc)
-all_asked true false c None e = clash (cc)
-all_asked true true false (Some r) e = clash (cc)
-all_asked true false c (Some r) e = clash (cc)
-all_asked false b c q e = clash (cc)
+-- a list of one value, with that value past its end too
+pub all_default : {A : Type 0} (k : ℕ) (x : A) (i : ℕ) → slice_index_or (replicate k x) i x ≡ x
+all_default k x i = elim (cases_lt i k) [ inl h ↦ get_or-replicate k i x x h | inr h ↦ get_or-eq_default (replicate k x) x (omega (arith, length-replicate k x)) ]
 
-empties : (xs : List ℕ) (k : ℕ) → Decides (empty_below xs k) ((i : ℕ) → i < k → slice_index xs i ≡ 0)
-empties xs k = Decides-below_and (λ i. nat_eq (slice_index xs i) 0) (λ i. slice_index xs i ≡ 0) (empty_below xs) (λ i. Decides-eqb (slice_index xs i) 0) refl (λ _. refl) k
+-- the first k contents are empty just where each passes the test
+pub empties : (xs : List ℕ) (k : ℕ) → Decides (empty_below xs k) ((i : ℕ) → i < k → (slice_index xs i == 0) ≡ true)
+empties xs k = Decides-below_and (λ i. slice_index xs i == 0) (λ i. (slice_index xs i == 0) ≡ true) (empty_below xs) (λ i. (λ e. e, λ e. e)) refl (λ _. refl) k
 
 module _ {Setup Phase : Type 0} (p : Protocol Setup Phase) {Meets : Phase → ℕ → Type 0} (kept : Kept p Meets) (u : Setup) (xs : List ℕ) where
-  no_row : (s : ℕ) → slice_index_or (fresh p u xs).table s Absent ≡ Absent
-  no_row s = elim (cases_lt s rows) [ inl h ↦ get_or-replicate rows s Absent Absent h | inr h ↦ get_or-eq_default (fresh p u xs).table Absent h ]
-
   fresh_good : refusal_of p u xs ≡ None → Good p kept (fresh p u xs)
   fresh_good none =
-      let (few, room, empty) = all_asked (one_to_sixteen (p.stations u)) (nat_le (p.registers u) (length xs)) (empty_below xs (p.registers u)) (p.question u) none in
-      let fits : Fitting p u xs (fresh p u xs).table = record { few = leb-true _ _ (and_parts _ _ few).1; rows = refl; room = leb-true _ _ room } in
+      let few : one_to_sixteen (p.stations u) ≡ true = grind arith in
+      let empty : empty_below xs (p.registers u) ≡ true = grind arith in
+      let fits : Fitting p u xs (fresh p u xs).table = record { few = grind (arith, nat_tests); rows = refl; room = grind (arith, nat_tests) } in
       record {
-        some = leb-true _ _ (and_parts _ _ few).0;
+        some = grind (arith, nat_tests);
         fitting = fits;
-        past = λ s _. no_row s;
-        inv = kept.new u xs (fresh p u xs).table fits ((empties xs (p.registers u)).0 empty) no_row;
+        past = λ s _. all_default rows Absent s;
+        inv = kept.new u xs (fresh p u xs).table fits (λ i l. grind (arith, nat_tests, (empties xs (p.registers u)).0 empty i l)) (all_default rows Absent);
       }
 
   -- a making whose questions pass begins a machine that is reached
@@ -190,8 +152,4 @@ module _ {Setup Phase : Type 0} (p : Protocol Setup Phase) {Meets : Phase → �
 
   -- whatever a making leaves is reached
   pub made_reached : (kept_deciding p kept).Reached (made p u xs)
-  made_reached = go (refusal_of p u xs) refl
-    where
-      go : (q : Option Refusal) → refusal_of p u xs ≡ q → (kept_deciding p kept).Reached (with_refusal (fresh p u xs) q)
-      go None none = fresh_reached none
-      go (Some r) some = tt
+  made_reached = grind (arith, fresh_reached)

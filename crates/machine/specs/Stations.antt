@@ -1,25 +1,20 @@
 -- What the invariant of a protocol says of each station's row, and the laws that follow from that alone.
 use Rattle.std.specs.Prelude.{◌≡◌, ℕ, ◌<◌, ◌≤◌, Bool, true, false, List, length, slice_index_or, slice_set}
-use Rattle.std.proofs.Common.{subst, inl, inr, arith}
+use Rattle.std.proofs.Common.{inl, inr, arith}
 use Rattle.std.proofs.lemmas.List.{get_or-set_same, get_or-set_other}
 use Rattle.std.proofs.lemmas.Bool.{cases_eq}
 use Rattle.deciding.specs.declared.record.Outcome.{Outcome}
 use Rattle.deciding.specs.declared.record.Outcome.TheVariants.{Adopt, Commit}
 use Rattle.deciding.specs.declared.record.Record.{Record}
-use Rattle.deciding.specs.declared.record.Record.TheVariants.{UnderWay, Answered}
 use Rattle.machine.specs.declared.status.Status.{Status}
 use Rattle.machine.specs.declared.status.Status.TheVariants.{Absent, Running, Done}
 use Rattle.deciding.specs.Laws.{Laws, Proposes, Ends, mark, marks}
 use Rattle.machine.specs.Protocol.{shown}
-use Rattle.machine.specs.Frame.{clash}
 
 -- what holds of each element holds after one is set, if it holds of the new one
 pub each_set : {A : Type 0} (P : A → Type 0) (l : List A) (s : ℕ) (x d : A) → s < length l → P x →
     ((j : ℕ) → P (slice_index_or l j d)) → (j : ℕ) → P (slice_index_or (slice_set l s x) j d)
-each_set P l s x d there here others j = elim (cases_eq j s) [
-  | inl e ↦ rw (e, get_or-set_same l s x d there) here
-  | inr e ↦ rw (get_or-set_other l s j x d e) (others j)
-]
+each_set P l s x d there here others j = grind (arith, cases_eq j s, get_or-set_same l s x d there, get_or-set_other l s j x d, here, others j)
 
 module _ {Phase : Type 0} where
   -- some station proposed v
@@ -44,29 +39,10 @@ module _ {Phase : Type 0} where
   Fits limit P (Done v k o) = (v < marks) × (1 ≤ k) × (k ≤ limit) × P (mark o)
 
   pub fits_more : (limit : ℕ) (P Q : ℕ → Type 0) → ((v : ℕ) → P v → Q v) → (row : Status Phase) → Fits limit P row → Fits limit Q row
-  fits_more limit P Q more Absent fits = tt
-  fits_more limit P Q more (Running v k ph) fits = fits
-  fits_more limit P Q more (Done v k o) fits = (fits.0, fits.1, fits.2, more (mark o) fits.3)
+  fits_more limit P Q more row fits = grind (arith, more)
 
   pub fits_small : (limit : ℕ) (P : ℕ → Type 0) (row : Status Phase) (v : ℕ) → Fits limit P row → Proposes (shown row) v → v < marks
-  fits_small limit P Absent v fits e = absurd e
-  fits_small limit P (Running w k ph) v fits e = omega arith
-  fits_small limit P (Done w k o) v fits e = omega arith
-
-  fits_valid : (limit : ℕ) (P : ℕ → Type 0) (row : Status Phase) (o : Outcome) → Fits limit P row → Ends (shown row) o → P (mark o)
-  fits_valid limit P Absent o fits e = absurd e
-  fits_valid limit P (Running w k ph) o fits e = absurd e
-  fits_valid limit P (Done w k q) o fits e = subst (λ (r : Outcome). P (mark r)) e fits.3
-
-  fits_under_way : (limit : ℕ) (P : ℕ → Type 0) (row : Status Phase) (v k : ℕ) → Fits limit P row → shown row ≡ UnderWay v k → k < limit
-  fits_under_way limit P Absent v k fits e = clash (cc)
-  fits_under_way limit P (Running w j ph) v k fits e = let same : j ≡ k = cc in omega arith
-  fits_under_way limit P (Done w j o) v k fits e = clash (cc)
-
-  fits_answered : (limit : ℕ) (P : ℕ → Type 0) (row : Status Phase) (v k : ℕ) (o : Outcome) → Fits limit P row → shown row ≡ Answered v k o → (1 ≤ k) × (k ≤ limit)
-  fits_answered limit P Absent v k o fits e = clash (cc)
-  fits_answered limit P (Running w j ph) v k o fits e = clash (cc)
-  fits_answered limit P (Done w j q) v k o fits e = let same : j ≡ k = cc in (omega arith, omega arith)
+  fits_small limit P row v fits e = grind arith
 
   -- the laws, where every row fits: coherence and what is said of ratifying are left to the protocol
   pub laws_of : (limit : ℕ) (ratifying : Bool) (t : List (Status Phase)) → let record_of : ℕ → Record = λ s. shown (slice_index_or t s Absent) in
@@ -77,10 +53,10 @@ module _ {Phase : Type 0} where
       Laws limit ratifying record_of
   laws_of limit ratifying t fits coherent ratifies never = record {
     small = λ s v. fits_small limit (Proposed t) (slice_index_or t s Absent) v (fits s);
-    valid = λ s o. fits_valid limit (Proposed t) (slice_index_or t s Absent) o (fits s);
+    valid = λ s o e. grind (arith, fits s);
     coherent = coherent;
-    bounded = λ s v k. fits_under_way limit (Proposed t) (slice_index_or t s Absent) v k (fits s);
-    bounded_end = λ s v k o. fits_answered limit (Proposed t) (slice_index_or t s Absent) v k o (fits s);
+    bounded = λ s v k e. grind (arith, fits s);
+    bounded_end = λ s v k o e. grind (arith, fits s);
     ratifies = ratifies;
     never = never;
   }

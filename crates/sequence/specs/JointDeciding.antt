@@ -1,6 +1,6 @@
 -- Two deciding objects, one after the other, are a deciding object.
-use Rattle.std.specs.Prelude.{◌≡◌, ℕ, ◌+◌, ◌<◌, ◌≤◌, ◌||◌, ◌⊎◌, Some, None, Option, ◌≢◌, refl}
-use Rattle.std.proofs.Common.{arith, sym, ap, ap₂, ◌∙◌, inl, inr}
+use Rattle.std.specs.Prelude.{◌≡◌, ℕ, ◌+◌, ◌<◌, ◌||◌, Some, None, Option, refl}
+use Rattle.std.proofs.Common.{arith, sym, ap₂, ◌∙◌}
 use Rattle.std.specs.Coded.{Coded-set, coded_ℕ}
 use Rattle.std.proofs.lemmas.Bool.{cases_eq}
 use Rattle.deciding.specs.declared.record.Outcome.{Outcome}
@@ -8,12 +8,12 @@ use Rattle.deciding.specs.declared.record.Outcome.TheVariants.{Adopt, Commit}
 use Rattle.deciding.specs.declared.record.Record.{Record}
 use Rattle.deciding.specs.declared.record.Record.TheVariants.{Away, UnderWay, Answered}
 use Rattle.deciding.specs.declared.record.Operation.{Operation}
-use Rattle.deciding.specs.Laws.{Laws, Ends, marks, stepped, record_prop}
+use Rattle.deciding.specs.Laws.{Laws, stepped, record_prop}
 use Rattle.deciding.specs.Machine.{Machine, Step, Beside, Enters, Steps}
 use Rattle.deciding.specs.Sizes.{Sized, sizes_prop}
 use Rattle.deciding.specs.Deciding.{Deciding}
 use Rattle.sequence.specs.Joint.{Pair, pair, joined, Link, step_first, step_second, joint, Together}
-use Rattle.sequence.specs.JointLaws.{Going, going, away_first, joined_laws}
+use Rattle.sequence.specs.JointLaws.{Going, going, joined_laws}
 
 link_prop : (a b : Record) → IsProp (Link a b)
 link_prop Away b = record_prop b Away
@@ -40,15 +40,15 @@ module _ (m n : Machine) (d : Deciding m) (e : Deciding n) where
 
   module _ (x : m.State) (y : n.State) (s : ℕ) (together : Together m n d e (pair x y)) where
     -- both parts moved at s alone, and what the second knows of s is what the first gave it
-    changes : (x' : m.State) (y' : n.State) → d.Reached x' → e.Reached y' → Beside m s x x' → Beside n s y y' → (a b : Record) → m.record_of x' s ≡ a → n.record_of y' s ≡ b → Link a b →
-        (r : Record) → joined a b ≡ r → Changes s (pair x y) (pair x' y') r
-    changes x' y' reached_x reached_y f g a b p q l r c = record {
+    changes : (x' : m.State) (y' : n.State) → d.Reached x' → e.Reached y' → Beside m s x x' → Beside n s y y' → Link (m.record_of x' s) (n.record_of y' s) →
+        (r : Record) → joined (m.record_of x' s) (n.record_of y' s) ≡ r → Changes s (pair x y) (pair x' y') r
+    changes x' y' reached_x reached_y f g l r own = record {
       reached = record {
         first = reached_x;
         second = reached_y;
         stations = g.stations ∙ together.stations ∙ sym f.stations;
         sizes = rw (f.stations, f.limit, g.limit, f.registers, g.registers) together.sizes;
-        linked = λ t. linked t (cases_eq t s);
+        linked = λ t. grind (arith, cases_eq t s, l, f.others t, g.others t, together.linked t);
       };
       beside = record {
         stations = f.stations;
@@ -58,20 +58,16 @@ module _ (m n : Machine) (d : Deciding m) (e : Deciding n) where
         refused = refl;
         others = λ t h. ap₂ joined (f.others t h) (g.others t h);
       };
-      own = ap₂ joined p q ∙ c;
+      own = own;
     }
-      where
-        linked : (t : ℕ) → (t ≡ s) ⊎ (t ≢ s) → Link (m.record_of x' t) (n.record_of y' t)
-        linked t (inl h) = rw (h, p, q) l
-        linked t (inr h) = rw (f.others t h, g.others t h) (together.linked t)
 
-    enter_changes : (v : ℕ) → Enters (joint m n) (pair x y) s v → Changes s (pair x y) (pair (m.enter x s v) y) (UnderWay v 0)
+    pub enter_changes : (v : ℕ) → Enters (joint m n) (pair x y) s v → Changes s (pair x y) (pair (m.enter x s v) y) (UnderWay v 0)
     enter_changes v h =
+        let linked = together.linked s in
+        let g : Enters m x s v = record { below = h.below; away = grind (arith, h.away); small = h.small } in
+        let own = d.enter_own x s v together.first g in
         changes (m.enter x s v) y (d.enter_reached x s v together.first g) together.second (d.enter_beside x s v together.first g) (beside_itself n s y)
-        (UnderWay v 0) Away (d.enter_own x s v together.first g) (rw g.away at (together.linked s)) refl (UnderWay v 0) refl
-      where
-        g : Enters m x s v
-        g = record { below = h.below; away = away_first (m.record_of x s) (n.record_of y s) h.away; small = h.small }
+        (grind (arith, g.away, own, linked)) (UnderWay v 0) (grind (arith, own))
 
     -- a step in the first part, which came to x' with the outcome o
     first_changes : (v k : ℕ) → s < m.stations x → m.record_of x s ≡ UnderWay v k → (i : Operation) (o : Option Outcome) (x' : m.State) → d.Reached x' → Beside m s x x' →
@@ -79,22 +75,20 @@ module _ (m n : Machine) (d : Deciding m) (e : Deciding n) where
         let r = step_first m n (pair x y) s (record { operation = i; outcome = o; next = x' }) in
         Changes s (pair x y) r.next (stepped (UnderWay v k) r.outcome)
     first_changes v k below at i None x' reached_x f p =
-        changes x' y reached_x together.second f (beside_itself n s y) (UnderWay v (k + 1)) Away p (rw at at (together.linked s)) refl (UnderWay v (k + 1)) refl
+        changes x' y reached_x together.second f (beside_itself n s y) (grind (arith, at, p, together.linked s)) (UnderWay v (k + 1)) (grind (arith, p))
     first_changes v k below at i (Some (Commit w)) x' reached_x f p =
-        changes x' y reached_x together.second f (beside_itself n s y) (Answered v (k + 1) (Commit w)) Away p (rw at at (together.linked s)) refl (Answered v (k + 1) (Commit w)) refl
+        changes x' y reached_x together.second f (beside_itself n s y) (grind (arith, at, p, together.linked s)) (Answered v (k + 1) (Commit w)) (grind (arith, p))
     first_changes v k below at i (Some (Adopt w)) x' reached_x f p =
+        let laws = d.laws x' reached_x in
+        let linked = together.linked s in
+        let g : Enters n y s w = record {
+          below = rw together.stations below;
+          away = grind (arith, at, linked);
+          small = let (t, h) = laws.valid s (Adopt w) (rw p refl) in laws.small t w h;
+        } in
+        let own = e.enter_own y s w together.second g in
         changes x' (n.enter y s w) reached_x (e.enter_reached y s w together.second g) f (e.enter_beside y s w together.second g)
-        (Answered v (k + 1) (Adopt w)) (UnderWay w 0) p (e.enter_own y s w together.second g) refl
-        (UnderWay v (k + 1)) (ap (UnderWay v) (omega arith))
-      where
-        ends : Ends (m.record_of x' s) (Adopt w)
-        ends = rw p refl
-
-        small : w < marks
-        small = let laws = d.laws x' reached_x in let (t, h) = laws.valid s (Adopt w) ends in laws.small t w h
-
-        g : Enters n y s w
-        g = record { below = rw together.stations below; away = rw at at (together.linked s); small = small }
+        (grind (arith, p, own)) (UnderWay v (k + 1)) (grind (arith, p, own))
 
     -- a step in the second part, which came to y' with the outcome o
     second_changes : (v k u i j : ℕ) → m.record_of x s ≡ Answered v i (Adopt u) → n.record_of y s ≡ UnderWay u j → k ≡ i + j → (a : Operation) (o : Option Outcome) (y' : n.State) → e.Reached y' →
@@ -102,48 +96,34 @@ module _ (m n : Machine) (d : Deciding m) (e : Deciding n) where
         let r = step_second m n (pair x y) (record { operation = a; outcome = o; next = y' }) in
         Changes s (pair x y) r.next (stepped (UnderWay v k) r.outcome)
     second_changes v k u i j p q sum a None y' reached_y g h =
-        changes x y' together.first reached_y (beside_itself m s x) g (Answered v i (Adopt u)) (UnderWay u (j + 1)) p h refl (UnderWay v (k + 1)) (ap (UnderWay v) (omega arith))
+        changes x y' together.first reached_y (beside_itself m s x) g (grind (arith, p, h)) (UnderWay v (k + 1)) (grind (arith, p, h))
     second_changes v k u i j p q sum a (Some o) y' reached_y g h =
-        changes x y' together.first reached_y (beside_itself m s x) g (Answered v i (Adopt u)) (Answered u (j + 1) o) p h refl (Answered v (k + 1) o) (ap (λ (l : ℕ). Answered v l o) (omega arith))
+        changes x y' together.first reached_y (beside_itself m s x) g (grind (arith, p, h)) (Answered v (k + 1) o) (grind (arith, p, h))
 
     step_changes : (c v k : ℕ) → s < m.stations x → Going (m.record_of x s) (n.record_of y s) v k → StepOwes (pair x y) s v k ((joint m n).step (pair x y) s c)
     step_changes c v k below (Going.first at) =
+        let r = m.step x s c in
+        let g : Steps m x s v k = record { below = below; under_way = at } in
         rw at
         (record {
           changes = first_changes v k below at r.operation r.outcome r.next (d.step_reached x s c v k together.first g) (d.step_beside x s c v k together.first g) (d.step_own x s c v k together.first g);
           below = omega (arith, d.step_below x s c v k together.first g);
         })
-      where
-        r : Step m.State
-        r = m.step x s c
-
-        g : Steps m x s v k
-        g = record { below = below; under_way = at }
     step_changes c v k below (Going.second u i j p q sum) =
+        let r = n.step y s c in
+        let g : Steps n y s u j = record { below = rw together.stations below; under_way = q } in
         rw p
         (record {
           changes = second_changes v k u i j p q sum r.operation r.outcome r.next (e.step_reached y s c u j together.second g) (e.step_beside y s c u j together.second g) (e.step_own y s c u j together.second g);
           below = omega (arith, e.step_below y s c u j together.second g);
         })
-      where
-        r : Step n.State
-        r = n.step y s c
-
-        g : Steps n y s u j
-        g = record { below = rw together.stations below; under_way = q }
 
   pub joint_steps : (p : Pair m.State n.State) (s c v k : ℕ) → Together m n d e p → Steps (joint m n) p s v k → StepOwes p s v k ((joint m n).step p s c)
   joint_steps p s c v k t h =
       step_changes p.first p.second s t c v k h.below (going (m.record_of p.first s) (n.record_of p.second s) v k (t.linked s) h.under_way)
 
-  pub joint_enters : (p : Pair m.State n.State) (s v : ℕ) → Together m n d e p → Enters (joint m n) p s v → Changes s p ((joint m n).enter p s v) (UnderWay v 0)
-  joint_enters p s v t h = enter_changes p.first p.second s t v h
-
-  pub joint_away : (p : Pair m.State n.State) (s : ℕ) → Together m n d e p → m.stations p.first ≤ s → (joint m n).record_of p s ≡ Away
-  joint_away p s t h = rw (d.away p.first s t.first h)
-
   pub joint_sized : (p : Pair m.State n.State) → Together m n d e p → Sized None (m.stations p.first) ((joint m n).limit p) ((joint m n).registers p) ((joint m n).ratifying p)
-  joint_sized p t = record { made = λ _. t.sizes; unmade = λ r h. let z : ◌≡◌ {A = ℕ} 0 1 = cc in absurd (omega arith) }
+  joint_sized p t = record { made = λ _. t.sizes; unmade = λ r h. cc }
 
   pub joint_laws : (p : Pair m.State n.State) → Together m n d e p → Laws ((joint m n).limit p) ((joint m n).ratifying p) ((joint m n).record_of p)
   joint_laws p t =
@@ -163,14 +143,14 @@ module _ (m n : Machine) (d : Deciding m) (e : Deciding n) where
   joint_deciding = record {
     Reached = Together m n d e;
     reached_prop = together_prop;
-    enter_reached = λ p s v t h. (joint_enters p s v t h).reached;
-    enter_beside = λ p s v t h. (joint_enters p s v t h).beside;
-    enter_own = λ p s v t h. (joint_enters p s v t h).own;
+    enter_reached = λ p s v t h. (enter_changes p.first p.second s t v h).reached;
+    enter_beside = λ p s v t h. (enter_changes p.first p.second s t v h).beside;
+    enter_own = λ p s v t h. (enter_changes p.first p.second s t v h).own;
     step_reached = λ p s c v k t h. (joint_steps p s c v k t h).changes.reached;
     step_beside = λ p s c v k t h. (joint_steps p s c v k t h).changes.beside;
     step_own = λ p s c v k t h. (joint_steps p s c v k t h).changes.own;
     step_below = λ p s c v k t h. (joint_steps p s c v k t h).below;
-    away = λ p s t h. joint_away p s t h;
-    sized = λ p t. joint_sized p t;
-    laws = λ p t. joint_laws p t;
+    away = λ p s t h. rw (d.away p.first s t.first h) refl;
+    sized = joint_sized;
+    laws = joint_laws;
   }

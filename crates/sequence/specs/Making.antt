@@ -1,8 +1,8 @@
 -- The making of a sequence, and the questions that it asks of its parts, in this order: has each 1 to 16 stations, have both as
 -- many, are all records away, are the joined limit and registers at most 1,000.
-use Rattle.std.specs.Prelude.{◌≡◌, ℕ, ◌+◌, Bool, true, false, cond, ◌&&◌, Some, None, Option, ◌==◌, nat_le, refl}
-use Rattle.std.proofs.Common.{arith, sym}
-use Rattle.std.proofs.lemmas.Bool.{and_parts, eqb-true, leb-true}
+use Rattle.std.specs.Prelude.{◌≡◌, ◌+◌, Bool, true, cond, ◌&&◌, Some, None, Option, ◌==◌, nat_le}
+use Rattle.std.proofs.Common.{arith}
+use Rattle.std.proofs.lemmas.Bool.Decides.{nat_tests}
 use Rattle.refusal.specs.declared.Refusal.{Refusal}
 use Rattle.refusal.specs.declared.Refusal.TheVariants.{StationCount, StationsDiffer, NotAllAway, TooLarge}
 use Rattle.deciding.specs.Away.{all_away}
@@ -40,43 +40,28 @@ module _ (m n : Machine) (x : m.State) (y : n.State) where
   abbrev pub sequence_made : Refusable (Pair m.State n.State)
   sequence_made = with_refusal (pair x y) sequence_refusal
 
--- the answers to the four questions, where none was no
-all_asked : (a b c d : Bool) → cond a (cond b (cond c (cond d None (Some TooLarge)) (Some NotAllAway)) (Some StationsDiffer)) (Some StationCount) ≡ None →
-    (a ≡ true) × (b ≡ true) × (c ≡ true) × (d ≡ true)
-all_asked true true true true h = (refl, refl, refl, refl)
-all_asked true true true false h = let z : ◌≡◌ {A = ℕ} 0 1 = cc in absurd (omega arith)
-all_asked true true false d h = let z : ◌≡◌ {A = ℕ} 0 1 = cc in absurd (omega arith)
-all_asked true false c d h = let z : ◌≡◌ {A = ℕ} 0 1 = cc in absurd (omega arith)
-all_asked false b c d h = let z : ◌≡◌ {A = ℕ} 0 1 = cc in absurd (omega arith)
-
 module _ (m n : Machine) (d : Deciding m) (e : Deciding n) (x : m.State) (y : n.State) (reached_x : d.Reached x) (reached_y : e.Reached y) where
   -- parts whose questions pass go together
   pub together : sequence_refusal m n x y ≡ None → Together m n d e (pair x y)
   together none =
-      let (a, b, c, w) = all_asked (counted m n x y) (as_many m n x y) (untouched m n x y) (within m n x y) none in
-      let (short, narrow) = and_parts (nat_le (m.limit x + n.limit y) 1000) (nat_le (m.registers x + n.registers y) 1000) w in
-      let (small_x, small_y) = and_parts (one_to_sixteen (m.stations x)) (one_to_sixteen (n.stations y)) a in
-      let (away_x, away_y) = and_parts (all_away (m.record_of x) 16) (all_away (n.record_of y) 16) c in
-      let sizes = sizes_where_made m d x reached_x small_x in
+      let few_x : one_to_sixteen (m.stations x) ≡ true = grind arith in
+      let few_y : one_to_sixteen (n.stations y) ≡ true = grind arith in
+      let sizes = sizes_where_made m d x reached_x few_x in
       record {
         first = reached_x;
         second = reached_y;
-        stations = sym (eqb-true (m.stations x) (n.stations y) b);
+        stations = grind (arith, nat_tests);
         sizes = record {
           some_stations = sizes.some_stations;
           few_stations = sizes.few_stations;
           some_steps = omega (arith, sizes.some_steps);
-          few_steps = leb-true (m.limit x + n.limit y) 1000 short;
+          few_steps = grind (arith, nat_tests);
           some_registers = omega (arith, sizes.some_registers);
-          few_registers = leb-true (m.registers x + n.registers y) 1000 narrow;
+          few_registers = grind (arith, nat_tests);
         };
-        linked = λ s. rw (all_are_away m d x reached_x small_x away_x s, all_are_away n e y reached_y small_y away_y s) refl;
+        linked = λ s. grind (arith, all_are_away m d x reached_x few_x, all_are_away n e y reached_y few_y);
       }
 
   -- whatever a making leaves is reached
   pub sequence_made_reached : RefusableReached (joint m n) (joint_deciding m n d e) (sequence_made m n x y)
-  sequence_made_reached = go (sequence_refusal m n x y) refl
-    where
-      go : (q : Option Refusal) → sequence_refusal m n x y ≡ q → RefusableReached (joint m n) (joint_deciding m n d e) (with_refusal (pair x y) q)
-      go None none = together none
-      go (Some r) some = tt
+  sequence_made_reached = grind (arith, together)
