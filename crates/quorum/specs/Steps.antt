@@ -1,13 +1,10 @@
 -- Every call of the quorum ratifier keeps its invariant: a new machine, an accepted enter, and a step from each phase.
-use Rattle.std.specs.Prelude.{◌≡◌, ℕ, ◌+◌, ◌-◌, ◌<◌, ◌≤◌, cond, ◌≢◌, ◌⊎◌, List, length, set, ◌==◌, nat_lt, slice_index, slice_index_or, slice_set, refl}
-use Rattle.std.proofs.Common.{sym, ◌∙◌, inl, inr, arith}
+use Rattle.std.specs.Prelude.{◌≡◌, ℕ, ◌+◌, ◌-◌, ◌<◌, if◌then◌else◌, ◌≢◌, List, length, set, ◌==◌, nat_lt, slice_index, slice_index_or, slice_set, refl}
+use Rattle.std.proofs.Common.{sym, inl, inr, arith}
 use Rattle.std.proofs.lemmas.Grind.{common_steps}
 use Rattle.std.proofs.lemmas.Bool.Decides.{nat_tests}
 use Rattle.std.proofs.lemmas.List.{get_or-set_same, get_or-set_other}
-use Rattle.std.proofs.lemmas.Bool.{cond_both, eqb-true, eqb-false, ltb-true, ltb-false}
-use Rattle.deciding.specs.declared.record.Outcome.TheVariants.{Adopt, Commit}
-use Rattle.machine.specs.declared.status.Status.TheVariants.{Absent, Running, Done}
-use Rattle.machine.specs.Turn.{Turn}
+use Rattle.machine.specs.declared.status.Status.TheVariants.{Absent, Running}
 use Rattle.quorum.specs.declared.QuorumPhase.{QuorumPhase}
 use Rattle.quorum.specs.declared.QuorumPhase.TheVariants.{WriteSet, ReadPreference, WritePreference, ReadSet}
 use Rattle.deciding.specs.Laws.{Proposes, marks}
@@ -16,14 +13,6 @@ use Rattle.tables.specs.Table.{Table, Member, Lawful}
 use Rattle.quorum.specs.Ratifier.{quorum_turn, step_limit}
 use Rattle.machine.specs.Stations.{Proposed, Fits, fits_small}
 use Rattle.quorum.specs.Invariant.{Row, Settled, preferred, Announced, Ahead, Candidate, RowHolds, Invariant, Known, moved}
-
--- A write of a content that is not 0, to a register that is there, empties no register and fills no other.
-module _ (xs : List ℕ) (r x : ℕ) (there : r < length xs) (some : x ≢ 0) where
-  write_fills : (j : ℕ) → slice_index xs j ≢ 0 → slice_index (slice_set xs r x) j ≢ 0
-  write_fills j full = grind (arith, common_steps)
-
-  write_filled : (j : ℕ) → slice_index (slice_set xs r x) j ≢ 0 → (slice_index xs j ≢ 0) ⊎ (r ≡ j)
-  write_filled j full = grind (arith, common_steps)
 
 module _ (q : Table) where
   pub new_holds : (xs : List ℕ) (t : List Row) → ((i : ℕ) → i < q.pool_size + 1 → slice_index xs i ≡ 0) → ((s : ℕ) → slice_index_or t s Absent ≡ Absent) → Invariant q xs t
@@ -107,32 +96,27 @@ module _ (q : Table) where
           announced : Announced q (slice_set xs r 1) v (i + 1)
           announced j l = grind (arith, common_steps, old.written v i (refl, refl) j)
 
-          pub write_set_kept : Invariant q (slice_set xs r 1) (slice_set t s (Running v (k + 1) (cond (nat_lt (i + 1) q.write_size) (WriteSet (i + 1)) ReadPreference)))
+          pub write_set_kept : Invariant q (slice_set xs r 1) (slice_set t s (Running v (k + 1) (if nat_lt (i + 1) q.write_size then WriteSet (i + 1) else ReadPreference)))
           write_set_kept = moved q xs (slice_set xs r 1) t s v _ there inv (record {
             proposed = was (WriteSet i) is;
             proposes = refl;
-            fills = write_fills xs r 1 (omega (arith, below)) (omega arith);
-            filled = λ j _ full. elim (write_filled xs r 1 (omega (arith, below)) (omega arith) j full) [ inl e ↦ inl e | inr e ↦ inr (rw e at set_of_own) ];
-            prefers = λ w e. inl (inl (sym (get_or-set_other xs r q.pool_size 1 0 (omega (arith, below))) ∙ e));
+            fills = λ j full. grind (arith, common_steps);
+            filled = λ j _ full. grind (arith, common_steps, set_of_own);
+            prefers = λ w e. inl (grind (arith, get_or-set_other, below));
             settles = λ w e. absurd (grind (arith, nat_tests));
             holds = λ C P known more. let ranged = old.in_range in grind (arith, nat_tests, announced);
           })
 
         -- IT READS the preference register, and settles on its own mark or on the one that it finds
-        module _ (is : At ReadPreference) where
-          settling : RowHolds q xs (Candidate q xs t) (Proposed t) (Running v k ReadPreference)
-          settling = here ReadPreference is
-
-          pub read_preference_kept :
-              Invariant q xs (slice_set t s (Running v (k + 1) (cond (preferred q xs == 0) WritePreference (ReadSet (preferred q xs - 1) 0))))
-          read_preference_kept =
-              let all = settling.written v q.write_size (refl, refl) in
-              kept_read v _ (was ReadPreference is) refl
-              (λ w e. grind (arith, nat_tests, all))
-              (λ C P known more.
-              let ranged = settling.in_range in
-              let sized = sizes.1 in
-              grind (arith, nat_tests, all_ahead (preferred q xs - 1), known, candidate_small (preferred q xs - 1)))
+        pub read_preference_kept : At ReadPreference →
+            Invariant q xs (slice_set t s (Running v (k + 1) (if preferred q xs == 0 then WritePreference else ReadSet (preferred q xs - 1) 0)))
+        read_preference_kept is =
+            let settling = here ReadPreference is in
+            let all = settling.written v q.write_size (refl, refl) in
+            let ranged = settling.in_range in
+            let sized = sizes.1 in
+            let p = preferred q xs - 1 in
+            kept_read v _ (was ReadPreference is) refl (λ w e. grind (arith, nat_tests, all)) (λ C P known more. grind (arith, nat_tests, all_ahead p, known, candidate_small p))
 
         -- IT WRITES its own mark to the preference register
         pub write_preference_kept : q.pool_size < length xs → At WritePreference → Invariant q (slice_set xs q.pool_size (v + 1)) (slice_set t s (Running v (k + 1) (ReadSet v 0)))
@@ -143,8 +127,8 @@ module _ (q : Table) where
             moved q xs xs' t s v _ there inv (record {
               proposed = was WritePreference is;
               proposes = refl;
-              fills = write_fills xs q.pool_size (v + 1) room (omega arith);
-              filled = λ r below full. inl (rw (get_or-set_other xs q.pool_size r (v + 1) 0 (omega arith)) at full);
+              fills = λ j full. grind (arith, common_steps);
+              filled = λ r below full. inl (grind (arith, get_or-set_other));
               prefers = λ w e. inl (mine WritePreference is w (omega arith));
               settles = λ w e. inl (mine WritePreference is w e);
               holds = λ C P known more. let sized = sizes.1 in let ranged = old.in_range in grind (arith, all_ahead v, known);
@@ -164,43 +148,25 @@ module _ (q : Table) where
           small : p < marks
           small = candidate_small p preference
 
-          settled : (w : ℕ) → p ≡ w → Known q xs xs t v w
-          settled w e = inl (rw e at preference)
-
           -- a register that is empty is not the common one
           still_ahead : x ≡ 0 → (w : ℕ) → Known q xs xs t v w → w ≢ p → Ahead q w p (i + 1)
-          still_ahead empty w known other = elim known [
-            | inl c ↦
-                let a = reading.ahead p i (refl, refl) w c other in
-                let all = (inv.candidates w c).1 in
-                let sized = (law.writes w (candidate_small w c)).sized in
-                let passed : a.index ≢ i = λ e. all a.common.index (omega (arith, a.common.below)) (rw (a.common.is, e) empty) in
-                record { index = a.index; later = omega (arith, a.later); below = a.below; common = a.common }
-            | inr (none, _, _) ↦ absurd (reading.full p i (refl, refl) none)
-          ]
+          still_ahead empty w known other =
+              let c : Candidate q xs t w = grind (arith, reading.full p i) in
+              let a = reading.ahead p i (refl, refl) w c other in
+              let full = (inv.candidates w c).1 a.common.index in
+              let sized = (law.writes w (candidate_small w c)).sized in
+              record { index = a.index; later = grind (arith, a.later, a.common); below = a.below; common = a.common }
 
-          read_on : x ≡ 0 → i + 1 < q.read_size → Invariant q xs (slice_set t s (Running v (k + 1) (ReadSet p (i + 1))))
-          read_on empty more =
-              kept_read v _ (was (ReadSet p i) is) refl settled
-              (λ C P known _. let ranged = reading.in_range in grind (arith, reading.full p i, still_ahead empty, known))
-
-          committed : x ≡ 0 → q.read_size ≤ i + 1 → Invariant q xs (slice_set t s (Done v (k + 1) (Commit p)))
-          committed empty last =
-              kept_read v _ (was (ReadSet p i) is) refl settled
-              (λ C P known _. let ranged = reading.in_range in grind (arith, reading.full p i, still_ahead empty, known))
-
-          adopted : x ≢ 0 → Invariant q xs (slice_set t s (Done v (k + 1) (Adopt p)))
-          adopted full =
+          -- a register that is full is in the write set of another proposal
+          another : x ≢ 0 → (w : ℕ) × Proposed t w × (w ≢ p)
+          another full =
               let reads = law.reads p small in
               let (w, proposed, member) = inv.owned (slice_index (q.read_set p) i) (reads.below i reading.in_range.1) full in
               let read : Member (slice_index (q.read_set p) i) (q.read_set p) = record { index = i; below = omega (arith, reads.sized, reading.in_range); is = refl } in
-              let other : w ≢ p = λ e. law.apart p _ small (rw e at member) read in
-              kept_read v _ (was (ReadSet p i) is) refl settled
-              (λ C P known more. let ranged = reading.in_range in grind (arith, more w))
+              (w, proposed, λ e. law.apart p _ small (rw e at member) read)
 
           pub read_set_kept : Invariant q xs (slice_set t s (status_after v k (quorum_turn q v (ReadSet p i) x)))
           read_set_kept =
-              cond_both (x == 0) _ _ (λ (turn : Turn QuorumPhase). Invariant q xs (slice_set t s (status_after v k turn)))
-              (λ e. cond_both (nat_lt (i + 1) q.read_size) _ _ (λ (turn : Turn QuorumPhase). Invariant q xs (slice_set t s (status_after v k turn)))
-              (λ more. read_on (eqb-true x 0 e) (ltb-true _ _ more)) (λ last. committed (eqb-true x 0 e) (ltb-false _ _ last)))
-              (λ e. adopted (eqb-false x 0 e))
+              let ranged = reading.in_range in
+              kept_read v _ (was (ReadSet p i) is) (grind (arith, nat_tests)) (λ w e. grind (arith, nat_tests, preference))
+              (λ C P known more. grind (arith, nat_tests, reading.full p i, still_ahead, known, another, more))
