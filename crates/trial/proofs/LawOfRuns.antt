@@ -1,5 +1,5 @@
 -- The law of runs: the trial of a deciding object goes along with the events, and so these obey the law.
-use Rattle.std.proofs.Common.{◌≡◌, ℕ, ◌<◌, ◌≤◌, Bool, true, false, cond, not, eqb, ltb, ◌≢◌, ◌⊎◌, List, [], ◌∷◌, ◌++◌, Some, None, Decides, Option, refl, ◌∙◌, inl, inr, ⊎_elim, append_assoc, append-nil, arith, Ok, Err}
+use Rattle.std.proofs.Common.{◌≡◌, ℕ, ◌<◌, ◌≤◌, Bool, true, false, if◌then◌else◌, not, eqb, ltb, ◌≢◌, ◌⊎◌, List, [], ◌∷◌, ◌++◌, Some, None, Decides, Option, refl, ◌∙◌, inl, inr, ⊎_elim, append_assoc, append-nil, arith, Ok, Err}
 use mathlib.Core.Bool.{false≢true}
 use Rattle.std.proofs.lemmas.Bool.{cases_eq}
 use Rattle.std.proofs.lemmas.Bool.Decides.{nat_tests, Decides-ltb, Decides-not, Decides-like}
@@ -38,7 +38,7 @@ answered (Answered v k o) = true
 
 abbrev first_no : (Question → Bool) → List Question → Option Refusal
 first_no holds [] = None
-first_no holds (q ∷ qs) = cond (holds q) (first_no holds qs) (Some (refusal q))
+first_no holds (q ∷ qs) = if holds q then first_no holds qs else Some (refusal q)
 
 -- calls that are put to a trial, each with its answer
 abbrev pub happened : (m : Machine) → TrialState m.State → List Call → List Event
@@ -57,7 +57,7 @@ module _ (m : Machine) where
   accepted x (step s c) =
       let r = m.step x.object s c in
       record { answer = Ok (stepped r.operation r.outcome); next = record { object = r.next; stopped = x.stopped } }
-  accepted x (stop s) = record { answer = Ok stopped; next = record { object = x.object; stopped = λ t. cond (eqb t s) true (x.stopped t) } }
+  accepted x (stop s) = record { answer = Ok stopped; next = record { object = x.object; stopped = λ t. if eqb t s then true else x.stopped t } }
 
   by_questions : (x : TrialState m.State) (c : Call) → perform m x c ≡ unless m x (first_no (says x (station_of c)) (questions c)) (accepted x c)
   by_questions x (enter s v) = grind (arith, nat_tests)
@@ -197,10 +197,10 @@ module _ (m : Machine) (d : Deciding m) (start : m.State) where
     accepts (stop s) small h = record {
       judged = inr (h, refl);
       in_range = λ t k i o e. apart (cc);
-      next = unmoved (stop s gives Ok stopped) (λ t. stopped_quiet t s) (λ t. cond (eqb t s) true (x.stopped t)) stops;
+      next = unmoved (stop s gives Ok stopped) (λ t. stopped_quiet t s) (λ t. if eqb t s then true else x.stopped t) stops;
     }
       where
-        stops : (t : ℕ) → Decides (cond (eqb t s) true (x.stopped t)) (Stopped t (more past (stop s gives Ok stopped)))
+        stops : (t : ℕ) → Decides (if eqb t s then true else x.stopped t) (Stopped t (more past (stop s gives Ok stopped)))
         stops t = grind (arith, nat_tests, among_last (stop t gives Ok stopped) (stop s gives Ok stopped) past, stops_stay past (stop s gives Ok stopped) t (x.stopped t), f.stops t)
 
     follows : (c : Call) → Small c → Follows past c (perform m x c)
