@@ -1,5 +1,5 @@
 -- Every pile that an N can ask for is made.
-use Rattle.std.proofs.Common.{◌≡◌, ℕ, ◌+◌, ◌≤◌, Bool, true, false, ◌||◌, ltb, leb, List, replicate, None, sym, refl, ◌∙◌, subst, arith}
+use Rattle.std.proofs.Common.{◌≡◌, ℕ, ◌+◌, ◌≤◌, Bool, true, false, ◌||◌, ltb, leb, List, replicate, None, sym, refl, ◌∙◌, arith}
 use Rattle.std.proofs.lemmas.Bool.{and_parts, leb-true, le-leb, eq-eqb}
 use Rattle.deciding.specs.declared.record.Record.TheVariants.{Away}
 use Rattle.deciding.specs.Sizes.{one_to_sixteen}
@@ -56,12 +56,12 @@ one_ready p kept u xs limit registers passed short narrow = record {
   away = λ s. rw passed (fresh_away p u xs s);
 }
 
-module _ (n : ℕ) (few : one_to_sixteen n ≡ true) where
-  counted : (d : Built) (l r : ℕ) {t : Bool} → Ready n l r t d → one_to_sixteen (d.machine.stations d.start) ≡ true
-  counted d l r ready = rw ready.stations few
+module _ {n : ℕ} (few : one_to_sixteen n ≡ true) where
+  counted : {d : Built} {l r : ℕ} {t : Bool} → Ready n l r t d → one_to_sixteen (d.machine.stations d.start) ≡ true
+  counted ready = rw ready.stations few
 
-  sequence_ready : (a b : Built) (l r j k : ℕ) {t u : Bool} → Ready n l r t a → Ready n j k u b → l + j ≤ 1000 → r + k ≤ 1000 → Ready n (l + j) (r + k) (t || u) (in_sequence a b)
-  sequence_ready a b l r j k ready_a ready_b short narrow =
+  sequence_ready : {a b : Built} {l r j k : ℕ} {t u : Bool} → Ready n l r t a → Ready n j k u b → l + j ≤ 1000 → r + k ≤ 1000 → Ready n (l + j) (r + k) (t || u) (in_sequence a b)
+  sequence_ready {a = a} {b = b} ready_a ready_b short narrow =
       let m = a.machine in
       let o = b.machine in
       let x = a.start in
@@ -70,8 +70,8 @@ module _ (n : ℕ) (few : one_to_sixteen n ≡ true) where
       let room : m.registers x + o.registers y ≤ 1000 = omega (arith, ready_a.narrow, ready_b.narrow) in
       let passed : sequence_refusal m o x y ≡ None =
       rw (
-        counted a l r ready_a,
-        counted b j k ready_b,
+        counted ready_a,
+        counted ready_b,
         eq-eqb (m.stations x) (o.stations y) (ready_a.stations ∙ sym ready_b.stations),
         away_all (m.record_of x) ready_a.away 16,
         away_all (o.record_of y) ready_b.away 16,
@@ -86,9 +86,9 @@ module _ (n : ℕ) (few : one_to_sixteen n ≡ true) where
         away = λ s. rw (passed, ready_a.away s) refl;
       }
 
-  trial_ready : (d : Built) (l r : ℕ) → Ready n l r true d → ReadyPile n d
-  trial_ready d l r ready = record {
-    made = rw (counted d l r ready, away_all (d.machine.record_of d.start) ready.away 16) refl;
+  trial_ready : {d : Built} {l r : ℕ} → Ready n l r true d → ReadyPile n d
+  trial_ready {d = d} ready = record {
+    made = rw (counted ready, away_all (d.machine.record_of d.start) ready.away 16) refl;
     stations = ready.stations;
     ratifying = ready.ratifies;
   }
@@ -128,26 +128,17 @@ card_empty = refl
 
 pub piles_ready : (p : Pile) (n leader : ℕ) → one_to_sixteen n ≡ true → ltb leader n ≡ true → ReadyPile n (built p n leader)
 unfolding built
-piles_ready name.Collect n leader few led = trial_ready n few (collect_pile n) 34 32 (collect_ready n few)
-piles_ready name.Quorum n leader few led =
-    trial_ready n few (bit_pairs_pile n card) 18 17 (subst (λ (xs : List ℕ). Ready n 18 17 true (bit_pairs_pile n xs)) (sym card_empty) (bit_pairs_ready n few 17 (omega arith)))
-piles_ready name.CoinCollect n leader few led =
-    trial_ready n few (in_sequence (coin_pile n) (collect_pile n)) 53 33 (sequence_ready n few (coin_pile n) (collect_pile n) 19 1 34 32 (coin_ready n few) (collect_ready n few) (omega arith) (omega arith))
-piles_ready name.LeaderQuorum n leader few led =
-    trial_ready n few (in_sequence (leader_pile n leader) (half_sets_pile n)) 14 13
-    (sequence_ready n few (leader_pile n leader) (half_sets_pile n) 1 1 13 12 (leader_ready n few leader led) (half_sets_ready n few) (omega arith) (omega arith))
+piles_ready name.Collect n leader few led = trial_ready few (collect_ready few)
+piles_ready name.Quorum n leader few led = rw card_empty (trial_ready few (bit_pairs_ready few 17 (omega arith)))
+piles_ready name.CoinCollect n leader few led = trial_ready few (sequence_ready few (coin_ready few) (collect_ready few) (omega arith) (omega arith))
+piles_ready name.LeaderQuorum n leader few led = trial_ready few (sequence_ready few (leader_ready few leader led) (half_sets_ready few) (omega arith) (omega arith))
 piles_ready name.CollectCoinQuorum n leader few led =
-    let back = in_sequence (coin_pile n) (bit_pairs_pile n cells) in
-    trial_ready n few (in_sequence (collect_pile n) back) 71 50
-    (sequence_ready n few (collect_pile n) back 34 32 37 18 (collect_ready n few)
-    (sequence_ready n few (coin_pile n) (bit_pairs_pile n cells) 19 1 18 17 (coin_ready n few) (bit_pairs_ready n few 64 (omega arith)) (omega arith) (omega arith)) (omega arith) (omega arith))
+    let back = sequence_ready few (coin_ready few) (bit_pairs_ready few 64 (omega arith)) (omega arith) (omega arith) in
+    trial_ready few (sequence_ready few (collect_ready few) back (omega arith) (omega arith))
 piles_ready name.QuorumLeaderCoinCollect n leader few led =
-    let front = in_sequence (half_sets_pile n) (leader_pile n leader) in
-    let back = in_sequence (coin_pile n) (collect_pile n) in
-    trial_ready n few (in_sequence front back) 67 46
-    (sequence_ready n few front back 14 13 53 33
-    (sequence_ready n few (half_sets_pile n) (leader_pile n leader) 13 12 1 1 (half_sets_ready n few) (leader_ready n few leader led) (omega arith) (omega arith))
-    (sequence_ready n few (coin_pile n) (collect_pile n) 19 1 34 32 (coin_ready n few) (collect_ready n few) (omega arith) (omega arith)) (omega arith) (omega arith))
+    let front = sequence_ready few (half_sets_ready few) (leader_ready few leader led) (omega arith) (omega arith) in
+    let back = sequence_ready few (coin_ready few) (collect_ready few) (omega arith) (omega arith) in
+    trial_ready few (sequence_ready few front back (omega arith) (omega arith))
 
 pub piles_made : PilesMade
 piles_made p n leader few led = let ready = piles_ready p n leader few led in (ready.made, ready.stations)
