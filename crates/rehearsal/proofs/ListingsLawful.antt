@@ -1,5 +1,5 @@
 -- The law of listings, of every run: line by line, by what its command was judged to be.
-use Rattle.std.proofs.Common.{◌≡◌, ℕ, zero, suc, ◌+◌, ◌<◌, ◌≤◌, true, false, ltb, leb, List, [], ◌∷◌, ◌++◌, length, get_or, Some, None, Ok, Err, Option, Result, sym, refl, ap, ◌∙◌, subst, inl, inr, arith}
+use Rattle.std.proofs.Common.{◌≡◌, ℕ, zero, suc, ◌+◌, ◌<◌, ◌≤◌, true, false, ltb, leb, List, [], ◌∷◌, ◌++◌, length, get_or, Some, None, Ok, Err, Option, Result, sym, refl, ap, ◌∙◌, subst, arith}
 use Rattle.std.proofs.lemmas.List.{get_or-take}
 use Rattle.std.proofs.lemmas.Bool.Decides.{nat_tests}
 use Rattle.std.proofs.lemmas.Bool.{cond_both, true≢false}
@@ -25,7 +25,7 @@ use Rattle.trial.proofs.LawOfRuns.{in_range}
 use Rattle.trial.proofs.Makings.{lawful_trial, trial_reached, trial_away}
 use Rattle.rehearsal.specs.declared.verdict.Verdict.{Verdict}
 use Rattle.rehearsal.specs.declared.verdict.Verdict.TheVariants.{Ends, Halts, Refuses, Begins, Asks}
-use Rattle.rehearsal.specs.Lines.{answer_line, pile_line}
+use Rattle.rehearsal.specs.Lines.{answer_line}
 use Rattle.rehearsal.specs.Listings.{Listed, ◌got◌, beside, call_of, TurnsDown, Tells, is_pile, WithoutPile, AsksFor, TurnedAway, OneTrial, LawfulListing, LawfulRun}
 use Rattle.rehearsal.specs.Piles.{Built, built}
 use Rattle.rehearsal.specs.Responders.{Heard, Responder, in_state, refuses_all, no_trial, performs}
@@ -56,11 +56,7 @@ start_judged ops (Ok p) h =
     (λ none. (refl, (p, h, (grind (arith, nat_tests)))))
 
 item_judged : (x : Item) → JudgedAs x (item_verdict x)
-item_judged (broken q) = (refl, refl)
-item_judged (command script.new ops) = start_judged ops (pile_numbered (get_or ops 0 0)) (numbered_names (get_or ops 0 0))
-item_judged (command script.enter ops) = refl
-item_judged (command script.step ops) = refl
-item_judged (command script.stop ops) = refl
+item_judged x = grind (arith, λ (ops : List ℕ). start_judged ops (pile_numbered (get_or ops 0 0)) (numbered_names (get_or ops 0 0)))
 
 judged : (room : ℕ) (x : Item) → JudgedAs x (verdict room x)
 judged room x = grind (arith, item_judged x)
@@ -131,9 +127,7 @@ module _ {S : Type 0} (f : S → Call → Heard S) where
   one_line i is small rest room x y k ps after (Ends q) j e none = clash (cc)
   one_line i is small rest room x y k ps after (Halts q) j e none = no_call x i y k q ps (cc) (cc) j (no_calls x ps after (later e))
   one_line i is small rest room x y k ps after (Refuses q) j e none = no_call x i y k q ps (cc) (cc) j (rest _ x ps after (later e) none.1)
-  one_line i is small rest room x y k ps after (Begins u) j e none =
-      let shown : k ≡ pile_line u.pile (refusable (built u.pile u.stations u.leader).machine) (new_trial (built u.pile u.stations u.leader).machine (built u.pile u.stations u.leader).start).object = cc in
-      absurd (true≢false (rw shown at none.0))
+  one_line i is small rest room x y k ps after (Begins u) j e none = absurd (grind arith)
   one_line i is small rest room x y k ps after (Asks c) j e none =
       let is_i : y ≡ i = cc in
       one_call x y k ps c (rw is_i j) (rw j at small) (cc) (rest _ (f x c).next ps after (later e) none.1)
@@ -146,8 +140,7 @@ module _ {S : Type 0} (f : S → Call → Heard S) where
 -- BEFORE THE FIRST PILE
 all_refused : (calls : List Call) (c : Call) (a : Answer) → Among (c gives a) (events_of calls (heard refuses_all tt calls)) → a ≡ Err NoPile
 all_refused [] c a h = absurd h
-all_refused (k ∷ ks) c a (inl e) = cc
-all_refused (k ∷ ks) c a (inr h) = all_refused ks c a h
+all_refused (k ∷ ks) c a h = grind (arith, all_refused ks c a)
 
 turned_away : (part : List Listed) → Stretch refuses_all tt part → TurnedAway part
 turned_away part s = record { events = events_of s.calls (heard refuses_all tt s.calls); told = s.told; refused = all_refused s.calls }
@@ -155,7 +148,7 @@ turned_away part s = record { events = events_of s.calls (heard refuses_all tt s
 -- A TRIAL
 heard_answers : (m : Machine) (x : TrialState m.State) (calls : List Call) → heard (performs m) x calls ≡ answers m x calls
 heard_answers m x [] = refl
-heard_answers m x (c ∷ cs) = ap {B = List Answer} (λ r. (perform m x c).answer ∷ r) (heard_answers m (perform m x c).next cs)
+heard_answers m x (c ∷ cs) = simp (heard_answers m (perform m x c).next cs)
 
 module _ (d : Built) (n : ℕ) (ready : ReadyPile n d) where
   abbrev m : Machine

@@ -1,6 +1,7 @@
 -- Every pile that an N can ask for is made.
-use Rattle.std.proofs.Common.{◌≡◌, ℕ, ◌+◌, ◌≤◌, Bool, true, false, ◌||◌, ltb, leb, List, replicate, None, sym, refl, ◌∙◌, arith}
-use Rattle.std.proofs.lemmas.Bool.{and_parts, leb-true, le-leb, eq-eqb}
+use Rattle.std.proofs.Common.{◌≡◌, ℕ, ◌+◌, ◌≤◌, Bool, true, false, ◌||◌, ltb, List, replicate, None, sym, refl, ◌∙◌, arith}
+use Rattle.std.proofs.lemmas.Bool.Decides.{nat_tests}
+use Rattle.std.proofs.lemmas.Bool.{le-leb, eq-eqb}
 use Rattle.deciding.specs.declared.record.Record.TheVariants.{Away}
 use Rattle.deciding.specs.Sizes.{one_to_sixteen}
 use Rattle.deciding.proofs.AwayTests.{away_all}
@@ -46,9 +47,9 @@ pub record ReadyPile (n : ℕ) (d : Built) : Type 0 where
   pub stations : d.machine.stations d.start ≡ n
   pub ratifying : d.machine.ratifying d.start ≡ true
 
-one_ready : {Setup Phase : Type 0} (p : Protocol Setup Phase) {Meets : Phase → ℕ → Type 0} (kept : Kept p Meets) (u : Setup) (xs : List ℕ) (limit registers : ℕ) →
+one_ready : {Setup Phase : Type 0} (p : Protocol Setup Phase) {Meets : Phase → ℕ → Type 0} (kept : Kept p Meets) (u : Setup) (xs : List ℕ) {limit registers : ℕ} →
     refusal_of p u xs ≡ None → p.limit u ≤ limit → p.registers u ≤ registers → Ready (p.stations u) limit registers p.ratifying (one_machine p kept u xs)
-one_ready p kept u xs limit registers passed short narrow = record {
+one_ready p kept u xs passed short narrow = record {
   stations = rw passed refl;
   ratifies = rw passed refl;
   short = rw passed short;
@@ -94,32 +95,32 @@ module _ {n : ℕ} (few : one_to_sixteen n ≡ true) where
   }
 
   at_most : n ≤ 16
-  at_most = leb-true n 16 (and_parts (leb 1 n) (leb n 16) few).1
+  at_most = grind (arith, nat_tests)
 
   collect_ready : Ready n 34 32 true (collect_pile n)
   collect_ready =
       let most = at_most in
-      one_ready collect collect_kept (record { stations = n }) cells 34 32 (passes collect (record { stations = n }) 64 few refl (omega arith)) (omega arith) (omega arith)
+      one_ready collect collect_kept (record { stations = n }) cells (passes collect (record { stations = n }) 64 few refl (omega arith)) (omega arith) (omega arith)
 
   coin_ready : Ready n 19 1 false (coin_pile n)
   coin_ready =
       let most = at_most in
-      one_ready coin_conciliator coin_kept (record { stations = n }) cells 19 1 (passes coin_conciliator (record { stations = n }) 64 few refl (omega arith)) (omega (arith, doublings_few n)) (omega arith)
+      one_ready coin_conciliator coin_kept (record { stations = n }) cells (passes coin_conciliator (record { stations = n }) 64 few refl (omega arith)) (omega (arith, doublings_few n)) (omega arith)
 
   leader_ready : (leader : ℕ) → ltb leader n ≡ true → Ready n 1 1 false (leader_pile n leader)
   leader_ready leader led =
       let u : Leader = record { stations = n; leader = leader } in
-      one_ready leader_conciliator leader_kept u cells 1 1 (passes leader_conciliator u 64 few (rw led refl) (omega arith)) (omega arith) (omega arith)
+      one_ready leader_conciliator leader_kept u cells (passes leader_conciliator u 64 few (rw led refl) (omega arith)) (omega arith) (omega arith)
 
   bit_pairs_ready : (k : ℕ) → 17 ≤ k → Ready n 18 17 true (bit_pairs_pile n (replicate k 0))
   bit_pairs_ready k room =
       let u : Quorum BitPairs = record { stations = n; table = record {} } in
-      one_ready (quorum BitPairs bit_pairs) (quorum_kept BitPairs bit_pairs bit_pairs_lawful) u (replicate k 0) 18 17 (passes (quorum BitPairs bit_pairs) u k few refl room) (omega arith) (omega arith)
+      one_ready (quorum BitPairs bit_pairs) (quorum_kept BitPairs bit_pairs bit_pairs_lawful) u (replicate k 0) (passes (quorum BitPairs bit_pairs) u k few refl room) (omega arith) (omega arith)
 
   half_sets_ready : Ready n 13 12 true (half_sets_pile n)
   half_sets_ready =
       let u : Quorum HalfSets = record { stations = n; table = record {} } in
-      one_ready (quorum HalfSets half_sets) (quorum_kept HalfSets half_sets half_sets_lawful) u cells 13 12 (passes (quorum HalfSets half_sets) u 64 few refl (omega arith)) (omega arith) (omega arith)
+      one_ready (quorum HalfSets half_sets) (quorum_kept HalfSets half_sets half_sets_lawful) u cells (passes (quorum HalfSets half_sets) u 64 few refl (omega arith)) (omega arith) (omega arith)
 
 -- a cleared card is an empty board of 17 registers
 card_empty : card ≡ replicate 17 0

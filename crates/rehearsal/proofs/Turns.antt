@@ -1,5 +1,5 @@
 -- One command of a run: what is to come before it, and after it.
-use Rattle.std.proofs.Common.{◌≡◌, ℕ, ◌+◌, ◌-◌, ◌≤◌, ltb, List, [], ◌∷◌, length, drop, Some, None, Ok, Err, Option, Result, sym, refl, ◌∙◌, inl, inr, append-nil, arith}
+use Rattle.std.proofs.Common.{◌≡◌, ℕ, ◌+◌, ◌-◌, ◌≤◌, ltb, List, [], ◌∷◌, length, drop, Some, None, Option, Result, sym, refl, ◌∙◌, inl, inr, append-nil, arith}
 use Rattle.std.proofs.lemmas.Bool.{cond-true, cond-false, lt-ltb, le-ltb, cases_lt}
 use Rattle.refusal.specs.declared.Refusal.{Refusal}
 use Rattle.listing.specs.declared.line.Line.{Line}
@@ -52,8 +52,7 @@ one_listed q = append-nil (text (Refused q))
 
 -- a line for which there was room was put
 pub put_stands : (bs : List ℕ) (at : ℕ) (l : Line) (r : Result (Unit {0}) Refusal) (end : ℕ) (new : List ℕ) → 48 ≤ length bs - at → Appends bs at l r end new → Stands bs at l end new
-put_stands bs at l (Ok u) end new room put = put
-put_stands bs at l (Err e) end new room put = absurd (omega (arith, room, put.0.0))
+put_stands bs at l r end new room put = grind arith
 
 -- A run that ends as `whole` tells stands at p, and the next command was judged; `seen` is the schedule after that.
 module _ (whole : Final) (bs seen : List ℕ) (p : ℕ) (bytes : List ℕ) (w q : ℕ) (same : seen ≡ bs) where
