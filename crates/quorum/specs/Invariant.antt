@@ -15,7 +15,7 @@
 -- 5. A register of the pool that is not empty is in the write set of a proposed mark. None in the read set of p is in the write set
 --    of p. So a station that finds one full, and adopts p, shows that another mark than p was proposed.
 use Rattle.std.specs.Prelude.{◌≡◌, ℕ, ◌+◌, ◌<◌, ◌≤◌, ◌≢◌, ◌⊎◌, List, length, slice_index, slice_index_or, slice_set}
-use Rattle.std.proofs.Common.{subst, inl, inr}
+use Rattle.std.proofs.Common.{subst, inl, inr, arith}
 use Rattle.deciding.specs.declared.record.Outcome.TheVariants.{Adopt, Commit}
 use Rattle.machine.specs.declared.status.Status.{Status}
 use Rattle.machine.specs.declared.status.Status.TheVariants.{Absent, Running, Done}
@@ -113,13 +113,7 @@ module _ (q : Table) where
   holds_on : (xs xs' : List ℕ) (C C' P P' : ℕ → Type 0) (row : Row) →
       ((r : ℕ) → slice_index xs r ≢ 0 → slice_index xs' r ≢ 0) → (preferred xs ≢ 0 → (w : ℕ) → C' w → C w) → ((w : ℕ) → P w → P' w) →
       RowHolds xs C P row → RowHolds xs' C' P' row
-  holds_on xs xs' C C' P P' row fills fewer more h = record {
-    in_range = h.in_range;
-    written = λ v i has j l. fills _ (h.written v i has j l);
-    full = λ p i found. fills _ (h.full p i found);
-    ahead = λ p i found w c. h.ahead p i found w (fewer (h.full p i found) w c);
-    adopts = λ u e. let (w, proposed, other) = h.adopts u e in (w, more w proposed, other);
-  }
+  holds_on xs xs' C C' P P' row fills fewer more h = grind (arith, fills, fewer, more, h.written, h.full, h.ahead, h.adopts)
 
   -- ONE STATION MOVES, that of the proposal v: the contents become xs' and its row becomes `row`.
 
@@ -150,22 +144,16 @@ module _ (q : Table) where
     settled = each_set (λ r. (w : ℕ) → Settled r w → Known xs xs' t v w) t s row Absent there move.settles (λ j w e. inl (inr (j, e)))
 
     known : (w : ℕ) → Candidate xs' t' w → Known xs xs' t v w
-    known w c = elim c [ inl e ↦ move.prefers w e | inr (j, e) ↦ settled j w e ]
+    known w c = grind (arith, move.prefers w, settled)
 
     fewer : preferred xs ≢ 0 → (w : ℕ) → Candidate xs' t' w → Candidate xs t w
-    fewer full w c = elim (known w c) [ inl old ↦ old | inr (empty, is, all) ↦ absurd (full empty) ]
+    fewer full w c = grind (arith, known w c)
 
     pub moved : Invariant xs' (slice_set t s row)
     moved = record {
       rows = each_set (RowHolds xs' (Candidate xs' t') (Proposed t')) t s row Absent there
           (move.holds (Candidate xs' t') (Proposed t') known more)
           (λ j. holds_on xs xs' (Candidate xs t) (Candidate xs' t') (Proposed t) (Proposed t') (slice_index_or t j Absent) move.fills fewer more (inv.rows j));
-      candidates = λ w c. elim (known w c) [
-        | inl old ↦ let (proposed, all) = inv.candidates w old in (more w proposed, λ j l. move.fills _ (all j l))
-        | inr (empty, is, all) ↦ (rw is own, rw is all)
-      ];
-      owned = λ r below full. elim (move.filled r below full) [
-        | inl old ↦ let (w, proposed, member) = inv.owned r below old in (w, more w proposed, member)
-        | inr member ↦ (v, own, member)
-      ];
+      candidates = λ w c. grind (arith, known w c, inv.candidates w, more, move.fills, own);
+      owned = λ r below full. grind (arith, move.filled r below full, inv.owned r below, more, own);
     }

@@ -1,7 +1,7 @@
 -- The quorum ratifier, over any quorum table: write the write set of the own mark, settle on a preference, and read the read set of
 -- the preference. Those registers are all empty if no other mark is being written.
 -- The table's pool is registers 0 to k − 1, and register k is the preference register.
-use Rattle.std.specs.Prelude.{ℕ, ◌+◌, ◌-◌, ◌≤◌, true, cond, None, ◌==◌, nat_lt, slice_index}
+use Rattle.std.specs.Prelude.{ℕ, ◌+◌, ◌-◌, ◌≤◌, true, if◌then◌else◌, None, ◌==◌, nat_lt, slice_index}
 use Rattle.deciding.specs.declared.record.Outcome.TheVariants.{Adopt, Commit}
 use Rattle.machine.specs.declared.status.Plan.{Plan}
 use Rattle.machine.specs.declared.status.Plan.TheVariants.{Read, Write}
@@ -22,11 +22,11 @@ quorum_plan q v (ReadSet p i) = Read (slice_index (q.read_set p) i)
 
 -- of the proposal, the phase and the content
 abbrev pub quorum_turn : Table → ℕ → QuorumPhase → ℕ → Turn QuorumPhase
-quorum_turn q v (WriteSet i) x = On (cond (nat_lt (i + 1) q.write_size) (WriteSet (i + 1)) ReadPreference)
-quorum_turn q v ReadPreference x = On (cond (x == 0) WritePreference (ReadSet (x - 1) 0))
+quorum_turn q v (WriteSet i) x = On (if nat_lt (i + 1) q.write_size then WriteSet (i + 1) else ReadPreference)
+quorum_turn q v ReadPreference x = On (if x == 0 then WritePreference else ReadSet (x - 1) 0)
 quorum_turn q v WritePreference x = On (ReadSet v 0)
 quorum_turn q v (ReadSet p i) x =
-    cond (x == 0) (cond (nat_lt (i + 1) q.read_size) (On (ReadSet p (i + 1))) (End (Commit p))) (End (Adopt p))
+    if x == 0 then (if nat_lt (i + 1) q.read_size then On (ReadSet p (i + 1)) else End (Commit p)) else End (Adopt p)
 
 -- what a station may find: the preference register, of two bytes, holds a mark
 abbrev pub quorum_meets : QuorumPhase → ℕ → Type 0

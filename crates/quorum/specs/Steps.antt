@@ -1,77 +1,33 @@
 -- Every call of the quorum ratifier keeps its invariant: a new machine, an accepted enter, and a step from each phase.
-use Rattle.std.specs.Prelude.{◌≡◌, ℕ, ◌+◌, ◌-◌, ◌<◌, ◌≤◌, cond, ◌≢◌, ◌⊎◌, List, length, set, ◌==◌, nat_lt, slice_index, slice_index_or, slice_set, refl}
-use Rattle.std.proofs.Common.{sym, ap, ◌∙◌, inl, inr, arith}
+use Rattle.std.specs.Prelude.{◌≡◌, ℕ, ◌+◌, ◌-◌, ◌<◌, if◌then◌else◌, ◌≢◌, List, length, set, ◌==◌, nat_lt, slice_index, slice_index_or, slice_set, refl}
+use Rattle.std.proofs.Common.{sym, inl, inr, arith}
 use Rattle.std.proofs.lemmas.Grind.{common_steps}
+use Rattle.std.proofs.lemmas.Bool.Decides.{nat_tests}
 use Rattle.std.proofs.lemmas.List.{get_or-set_same, get_or-set_other}
-use Rattle.std.proofs.lemmas.Bool.{cases_eq, cond_both, eqb-true, eqb-false, ltb-true, ltb-false}
-use Rattle.deciding.specs.declared.record.Outcome.TheVariants.{Adopt, Commit}
-use Rattle.machine.specs.declared.status.Status.TheVariants.{Absent, Running, Done}
-use Rattle.machine.specs.Turn.{Turn}
+use Rattle.machine.specs.declared.status.Status.TheVariants.{Absent, Running}
 use Rattle.quorum.specs.declared.QuorumPhase.{QuorumPhase}
 use Rattle.quorum.specs.declared.QuorumPhase.TheVariants.{WriteSet, ReadPreference, WritePreference, ReadSet}
-use Rattle.deciding.specs.Laws.{Proposes, Ends, marks}
+use Rattle.deciding.specs.Laws.{Proposes, marks}
 use Rattle.machine.specs.Protocol.{shown, status_after}
-use Rattle.machine.specs.Frame.{clash}
 use Rattle.tables.specs.Table.{Table, Member, Lawful}
 use Rattle.quorum.specs.Ratifier.{quorum_turn, step_limit}
 use Rattle.machine.specs.Stations.{Proposed, Fits, fits_small}
-use Rattle.quorum.specs.Invariant.{Row, Settled, InRange, HasWritten, FoundEmpty, preferred, Announced, Ahead, Candidate, RowHolds, Invariant, Known, moved}
-
--- A write of a content that is not 0, to a register that is there, empties no register and fills no other.
-module _ (xs : List ℕ) (r x : ℕ) (there : r < length xs) (some : x ≢ 0) where
-  write_fills : (j : ℕ) → slice_index xs j ≢ 0 → slice_index (slice_set xs r x) j ≢ 0
-  write_fills j full = grind (arith, common_steps)
-
-  write_filled : (j : ℕ) → slice_index (slice_set xs r x) j ≢ 0 → (slice_index xs j ≢ 0) ⊎ (r ≡ j)
-  write_filled j full = elim (cases_eq j r) [
-    | inl e ↦ inr (sym e)
-    | inr e ↦ inl (rw (get_or-set_other xs r j x 0 e) at full)
-  ]
+use Rattle.quorum.specs.Invariant.{Row, Settled, preferred, Announced, Ahead, Candidate, RowHolds, Invariant, Known, moved}
 
 module _ (q : Table) where
-  -- a station that prefers p and has found the first i registers of its read set empty
-  reading_holds : (xs : List ℕ) (C P : ℕ → Type 0) (v k p i : ℕ) → InRange q (Running v k (ReadSet p i)) → preferred q xs ≢ 0 →
-      ((w : ℕ) → C w → w ≢ p → Ahead q w p i) → RowHolds q xs C P (Running v k (ReadSet p i))
-  reading_holds xs C P v k p i in_range full ahead = record {
-    in_range = in_range;
-    written = λ w j h. absurd h;
-    full = λ _ _ _. full;
-    ahead = λ p' j (same, at) w c other. rw (← same, ← at) (ahead w c (λ e. other (e ∙ same)));
-    adopts = λ u e. absurd e;
-  }
-
-  -- a row that is neither reading its preference's read set nor done
-  early_holds : (xs : List ℕ) (C P : ℕ → Type 0) (row : Row) → ((p i : ℕ) → FoundEmpty q row p i → ⊥) → ((u : ℕ) → Ends (shown row) (Adopt u) → ⊥) →
-      InRange q row → ((w i : ℕ) → HasWritten q row w i → Announced q xs w i) → RowHolds q xs C P row
-  early_holds xs C P row unread unended in_range written = record {
-    in_range = in_range;
-    written = written;
-    full = λ p i h. absurd (unread p i h);
-    ahead = λ p i h. absurd (unread p i h);
-    adopts = λ u e. absurd (unended u e);
-  }
-
   pub new_holds : (xs : List ℕ) (t : List Row) → ((i : ℕ) → i < q.pool_size + 1 → slice_index xs i ≡ 0) → ((s : ℕ) → slice_index_or t s Absent ≡ Absent) → Invariant q xs t
   new_holds xs t empty absent = record {
-    rows = λ s. rw (absent s) (early_holds xs _ _ Absent (λ p i h. h) (λ u e. e) tt (λ w i h. absurd h));
-    candidates = λ w c. absurd (elim c [
-      | inl e ↦ omega (arith, empty q.pool_size (omega arith))
-      | inr (s, e) ↦ rw (absent s) at e
-    ]);
+    rows = λ s. rw (absent s) (grind arith);
+    candidates = λ w c. grind (arith, empty q.pool_size, absent);
     owned = λ r below full. absurd (full (empty r (omega arith)));
   }
 
-  row_fits : (P : ℕ → Type 0) (row : Row) → InRange q row → ((w : ℕ) → Settled row w → P w) → Fits (step_limit q) P row
-  row_fits P Absent in_range settled = tt
-  row_fits P (Running v k (WriteSet i)) in_range settled = (in_range.0, omega arith)
-  row_fits P (Running v k ReadPreference) in_range settled = (in_range.0, omega arith)
-  row_fits P (Running v k WritePreference) in_range settled = (in_range.0, omega arith)
-  row_fits P (Running v k (ReadSet p i)) in_range settled = (in_range.0, omega arith)
-  row_fits P (Done v k o) in_range settled = (in_range.0, in_range.1, in_range.2, settled _ refl)
-
   module _ (law : Lawful q) (xs : List ℕ) (t : List Row) (inv : Invariant q xs t) where
     pub fits : (s : ℕ) → Fits (step_limit q) (Proposed t) (slice_index_or t s Absent)
-    fits s = row_fits (Proposed t) (slice_index_or t s Absent) (inv.rows s).in_range (λ w e. (inv.candidates w (inr (s, e))).0)
+    fits s =
+        let in_range = (inv.rows s).in_range in
+        let valid = λ (w : ℕ) (e : Settled (slice_index_or t s Absent) w). (inv.candidates w (inr (s, e))).0 in
+        grind (arith, valid)
 
     pub candidate_small : (w : ℕ) → Candidate q xs t w → w < marks
     candidate_small w c = let (j, e) = (inv.candidates w c).0 in fits_small (step_limit q) (Proposed t) (slice_index_or t j Absent) w (fits j) e
@@ -106,8 +62,8 @@ module _ (q : Table) where
 
       pub enter_holds : (v : ℕ) → v < marks → slice_index_or t s Absent ≡ Absent → Invariant q xs (slice_set t s (Running v 0 (WriteSet 0)))
       enter_holds v small absent =
-          kept_read v (Running v 0 (WriteSet 0)) (λ w e. absurd (rw absent at e)) refl (λ w e. absurd e)
-          (λ C P known more. early_holds xs C P _ (λ p i h. h) (λ u e. e) (small, sizes.0, refl) (λ w i h j l. absurd (omega arith)))
+          let sized = sizes.0 in
+          kept_read v (Running v 0 (WriteSet 0)) (λ w e. absurd (rw absent at e)) refl (λ w e. absurd e) (λ C P known more. grind arith)
 
       module _ (v k : ℕ) where
         -- the station is under way, in this phase
@@ -140,50 +96,27 @@ module _ (q : Table) where
           announced : Announced q (slice_set xs r 1) v (i + 1)
           announced j l = grind (arith, common_steps, old.written v i (refl, refl) j)
 
-          kept_write : (ph : QuorumPhase) → ((w : ℕ) → Settled (Running v (k + 1) ph) w → ⊥) →
-              ((C P : ℕ → Type 0) → RowHolds q (slice_set xs r 1) C P (Running v (k + 1) ph)) → Invariant q (slice_set xs r 1) (slice_set t s (Running v (k + 1) ph))
-          kept_write ph unsettled holds = moved q xs (slice_set xs r 1) t s v (Running v (k + 1) ph) there inv (record {
+          pub write_set_kept : Invariant q (slice_set xs r 1) (slice_set t s (Running v (k + 1) (if nat_lt (i + 1) q.write_size then WriteSet (i + 1) else ReadPreference)))
+          write_set_kept = moved q xs (slice_set xs r 1) t s v _ there inv (record {
             proposed = was (WriteSet i) is;
             proposes = refl;
-            fills = write_fills xs r 1 (omega (arith, below)) (omega arith);
-            filled = λ j _ full. elim (write_filled xs r 1 (omega (arith, below)) (omega arith) j full) [ inl e ↦ inl e | inr e ↦ inr (rw e at set_of_own) ];
-            prefers = λ w e. inl (inl (sym (get_or-set_other xs r q.pool_size 1 0 (omega (arith, below))) ∙ e));
-            settles = λ w e. absurd (unsettled w e);
-            holds = λ C P known more. holds C P;
+            fills = λ j full. grind (arith, common_steps);
+            filled = λ j _ full. grind (arith, common_steps, set_of_own);
+            prefers = λ w e. inl (grind (arith, get_or-set_other, below));
+            settles = λ w e. absurd (grind (arith, nat_tests));
+            holds = λ C P known more. let ranged = old.in_range in grind (arith, nat_tests, announced);
           })
 
-          pub write_set_kept : Invariant q (slice_set xs r 1) (slice_set t s (Running v (k + 1) (cond (nat_lt (i + 1) q.write_size) (WriteSet (i + 1)) ReadPreference)))
-          write_set_kept =
-              cond_both (nat_lt (i + 1) q.write_size) _ _ (λ (ph : QuorumPhase). Invariant q (slice_set xs r 1) (slice_set t s (Running v (k + 1) ph)))
-              (λ e. kept_write (WriteSet (i + 1)) (λ w h. h) (λ C P. early_holds (slice_set xs r 1) C P _ (λ p j h. h) (λ u h. h)
-              (old.in_range.0, ltb-true _ _ e, omega (arith, old.in_range)) (λ w j (is-own, is-next). rw (← is-own, ← is-next) announced)))
-              (λ e. kept_write ReadPreference (λ w h. h) (λ C P. early_holds (slice_set xs r 1) C P _ (λ p j h. h) (λ u h. h)
-              (old.in_range.0, omega (arith, old.in_range, ltb-false _ _ e))
-              (λ w j (is-own, is_all). let all : i + 1 ≡ j = omega (arith, old.in_range, ltb-false _ _ e) in rw (← is-own, ← all) announced)))
-
         -- IT READS the preference register, and settles on its own mark or on the one that it finds
-        module _ (is : At ReadPreference) where
-          settling : RowHolds q xs (Candidate q xs t) (Proposed t) (Running v k ReadPreference)
-          settling = here ReadPreference is
-
-          own_settled : preferred q xs ≡ 0 → Invariant q xs (slice_set t s (Running v (k + 1) WritePreference))
-          own_settled empty =
-              kept_read v _ (was ReadPreference is) refl
-              (λ w e. inr (empty, sym e, settling.written v q.write_size (refl, refl)))
-              (λ C P known more. early_holds xs C P _ (λ p i h. h) (λ u e. e) (settling.in_range.0, omega (arith, settling.in_range)) (λ w i h. absurd h))
-
-          found_settled : (p : ℕ) → preferred q xs ≡ p + 1 → Invariant q xs (slice_set t s (Running v (k + 1) (ReadSet p 0)))
-          found_settled p e =
-              kept_read v _ (was ReadPreference is) refl
-              (λ w same. inl (inl (e ∙ ap (λ (x : ℕ). x + 1) same)))
-              (λ C P known more. reading_holds xs C P v (k + 1) p 0 (settling.in_range.0, sizes.1, omega (arith, settling.in_range)) (omega arith)
-              (λ w c other. all_ahead p w (candidate_small p (inl e)) (elim (known w c) [ inl old ↦ old | inr (empty, _, _) ↦ absurd (omega arith) ]) other))
-
-          pub read_preference_kept :
-              Invariant q xs (slice_set t s (Running v (k + 1) (cond (preferred q xs == 0) WritePreference (ReadSet (preferred q xs - 1) 0))))
-          read_preference_kept =
-              cond_both (preferred q xs == 0) _ _ (λ (ph : QuorumPhase). Invariant q xs (slice_set t s (Running v (k + 1) ph)))
-              (λ e. own_settled (eqb-true _ _ e)) (λ e. let full = eqb-false (preferred q xs) 0 e in found_settled (preferred q xs - 1) (omega arith))
+        pub read_preference_kept : At ReadPreference →
+            Invariant q xs (slice_set t s (Running v (k + 1) (if preferred q xs == 0 then WritePreference else ReadSet (preferred q xs - 1) 0)))
+        read_preference_kept is =
+            let settling = here ReadPreference is in
+            let all = settling.written v q.write_size (refl, refl) in
+            let ranged = settling.in_range in
+            let sized = sizes.1 in
+            let p = preferred q xs - 1 in
+            kept_read v _ (was ReadPreference is) refl (λ w e. grind (arith, nat_tests, all)) (λ C P known more. grind (arith, nat_tests, all_ahead p, known, candidate_small p))
 
         -- IT WRITES its own mark to the preference register
         pub write_preference_kept : q.pool_size < length xs → At WritePreference → Invariant q (slice_set xs q.pool_size (v + 1)) (slice_set t s (Running v (k + 1) (ReadSet v 0)))
@@ -194,12 +127,11 @@ module _ (q : Table) where
             moved q xs xs' t s v _ there inv (record {
               proposed = was WritePreference is;
               proposes = refl;
-              fills = write_fills xs q.pool_size (v + 1) room (omega arith);
-              filled = λ r below full. inl (rw (get_or-set_other xs q.pool_size r (v + 1) 0 (omega arith)) at full);
+              fills = λ j full. grind (arith, common_steps);
+              filled = λ r below full. inl (grind (arith, get_or-set_other));
               prefers = λ w e. inl (mine WritePreference is w (omega arith));
               settles = λ w e. inl (mine WritePreference is w e);
-              holds = λ C P known more. reading_holds xs' C P v (k + 1) v 0 (old.in_range.0, sizes.1, omega (arith, old.in_range)) (omega arith)
-                  (λ w c other. all_ahead v w old.in_range.0 (elim (known w c) [ inl before ↦ before | inr (_, own, _) ↦ absurd (other own) ]) other);
+              holds = λ C P known more. let sized = sizes.1 in let ranged = old.in_range in grind (arith, all_ahead v, known);
             })
 
         -- IT READS one more register of its preference's read set
@@ -216,58 +148,25 @@ module _ (q : Table) where
           small : p < marks
           small = candidate_small p preference
 
-          settled : (w : ℕ) → p ≡ w → Known q xs xs t v w
-          settled w e = inl (rw e at preference)
-
           -- a register that is empty is not the common one
           still_ahead : x ≡ 0 → (w : ℕ) → Known q xs xs t v w → w ≢ p → Ahead q w p (i + 1)
-          still_ahead empty w known other = elim known [
-            | inl c ↦
-                let a = reading.ahead p i (refl, refl) w c other in
-                let all = (inv.candidates w c).1 in
-                let sized = (law.writes w (candidate_small w c)).sized in
-                let passed : a.index ≢ i = λ e. all a.common.index (omega (arith, a.common.below)) (rw (a.common.is, e) empty) in
-                record { index = a.index; later = omega (arith, a.later); below = a.below; common = a.common }
-            | inr (none, _, _) ↦ absurd (reading.full p i (refl, refl) none)
-          ]
+          still_ahead empty w known other =
+              let c : Candidate q xs t w = grind (arith, reading.full p i) in
+              let a = reading.ahead p i (refl, refl) w c other in
+              let full = (inv.candidates w c).1 a.common.index in
+              let sized = (law.writes w (candidate_small w c)).sized in
+              record { index = a.index; later = grind (arith, a.later, a.common); below = a.below; common = a.common }
 
-          read_on : x ≡ 0 → i + 1 < q.read_size → Invariant q xs (slice_set t s (Running v (k + 1) (ReadSet p (i + 1))))
-          read_on empty more =
-              kept_read v _ (was (ReadSet p i) is) refl settled
-              (λ C P known _. reading_holds xs C P v (k + 1) p (i + 1) (reading.in_range.0, more, omega (arith, reading.in_range))
-              (reading.full p i (refl, refl)) (λ w c. still_ahead empty w (known w c)))
-
-          committed : x ≡ 0 → q.read_size ≤ i + 1 → Invariant q xs (slice_set t s (Done v (k + 1) (Commit p)))
-          committed empty last =
-              kept_read v _ (was (ReadSet p i) is) refl settled
-              (λ C P known _. record {
-                in_range = (reading.in_range.0, omega arith, omega (arith, reading.in_range));
-                written = λ w j h. absurd h;
-                full = λ _ _ _. reading.full p i (refl, refl);
-                ahead = λ p' j (same, at) w c other.
-                    let next : i + 1 ≡ j = omega (arith, reading.in_range) in
-                    rw (← same, ← next) (still_ahead empty w (known w c) (λ e. other (e ∙ same)));
-                adopts = λ u e. clash (cc);
-              })
-
-          adopted : x ≢ 0 → Invariant q xs (slice_set t s (Done v (k + 1) (Adopt p)))
-          adopted full =
+          -- a register that is full is in the write set of another proposal
+          another : x ≢ 0 → (w : ℕ) × Proposed t w × (w ≢ p)
+          another full =
               let reads = law.reads p small in
               let (w, proposed, member) = inv.owned (slice_index (q.read_set p) i) (reads.below i reading.in_range.1) full in
               let read : Member (slice_index (q.read_set p) i) (q.read_set p) = record { index = i; below = omega (arith, reads.sized, reading.in_range); is = refl } in
-              let other : w ≢ p = λ e. law.apart p _ small (rw e at member) read in
-              kept_read v _ (was (ReadSet p i) is) refl settled
-              (λ C P known more. record {
-                in_range = (reading.in_range.0, omega arith, omega (arith, reading.in_range));
-                written = λ w j h. absurd h;
-                full = λ _ _ h. absurd h;
-                ahead = λ _ _ h. absurd h;
-                adopts = λ u e. let same : p ≡ u = cc in (w, more w proposed, λ is_u. other (is_u ∙ sym same));
-              })
+              (w, proposed, λ e. law.apart p _ small (rw e at member) read)
 
           pub read_set_kept : Invariant q xs (slice_set t s (status_after v k (quorum_turn q v (ReadSet p i) x)))
           read_set_kept =
-              cond_both (x == 0) _ _ (λ (turn : Turn QuorumPhase). Invariant q xs (slice_set t s (status_after v k turn)))
-              (λ e. cond_both (nat_lt (i + 1) q.read_size) _ _ (λ (turn : Turn QuorumPhase). Invariant q xs (slice_set t s (status_after v k turn)))
-              (λ more. read_on (eqb-true x 0 e) (ltb-true _ _ more)) (λ last. committed (eqb-true x 0 e) (ltb-false _ _ last)))
-              (λ e. adopted (eqb-false x 0 e))
+              let ranged = reading.in_range in
+              kept_read v _ (was (ReadSet p i) is) (grind (arith, nat_tests)) (λ w e. grind (arith, nat_tests, preference))
+              (λ C P known more. grind (arith, nat_tests, reading.full p i, still_ahead, known, another, more))

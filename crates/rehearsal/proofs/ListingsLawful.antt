@@ -1,7 +1,8 @@
 -- The law of listings, of every run: line by line, by what its command was judged to be.
-use Rattle.std.proofs.Common.{◌≡◌, ℕ, zero, suc, ◌+◌, ◌<◌, ◌≤◌, Bool, true, false, eqb, ltb, leb, List, [], ◌∷◌, ◌++◌, length, get_or, take, Some, None, Ok, Err, Option, Result, sym, refl, ap, ◌∙◌, subst, inl, inr, arith}
+use Rattle.std.proofs.Common.{◌≡◌, ℕ, zero, suc, ◌+◌, ◌<◌, ◌≤◌, true, false, ltb, leb, List, [], ◌∷◌, ◌++◌, length, get_or, Some, None, Ok, Err, Option, Result, sym, refl, ap, ◌∙◌, subst, arith}
 use Rattle.std.proofs.lemmas.List.{get_or-take}
-use Rattle.std.proofs.lemmas.Bool.{cond_both, and_parts, leb-true, le-leb, ltb-true, ltb-false, true≢false}
+use Rattle.std.proofs.lemmas.Bool.Decides.{nat_tests}
+use Rattle.std.proofs.lemmas.Bool.{cond_both, true≢false}
 use Rattle.refusal.specs.declared.Refusal.{Refusal}
 use Rattle.refusal.specs.declared.Refusal.TheVariants.{ListingFull, NoPile}
 use Rattle.deciding.specs.Laws.{marks}
@@ -17,9 +18,7 @@ use Rattle.schedule.specs.Script as script
 use Rattle.schedule.specs.Script.{Kind, Item, command, broken, operands, with_operands, item, tail, items, script}
 use Rattle.trial.specs.declared.call.Call.{Call}
 use Rattle.trial.specs.Answers.{Answer}
-use Rattle.trial.specs.declared.call.Effect.TheVariants as effect
 use Rattle.trial.specs.Events.{◌gives◌, events_of, Among}
-use Rattle.trial.specs.Law.{Lawful}
 use Rattle.trial.specs.Perform.{TrialState, Small, AllSmall, perform, trial_refusal, answers, last}
 use Rattle.trial.specs.Trials.{new_trial}
 use Rattle.trial.proofs.LawOfRuns.{in_range}
@@ -27,7 +26,7 @@ use Rattle.trial.proofs.Makings.{lawful_trial, trial_reached, trial_away}
 use Rattle.rehearsal.specs.declared.verdict.Verdict.{Verdict}
 use Rattle.rehearsal.specs.declared.verdict.Verdict.TheVariants.{Ends, Halts, Refuses, Begins, Asks}
 use Rattle.rehearsal.specs.Lines.{answer_line}
-use Rattle.rehearsal.specs.Listings.{Listed, ◌got◌, beside, call_of, TurnsDown, TellsOf, Tells, is_pile, WithoutPile, AsksFor, TurnedAway, OneTrial, LawfulListing, LawfulRun}
+use Rattle.rehearsal.specs.Listings.{Listed, ◌got◌, beside, call_of, TurnsDown, Tells, is_pile, WithoutPile, AsksFor, TurnedAway, OneTrial, LawfulListing, LawfulRun}
 use Rattle.rehearsal.specs.Piles.{Built, built}
 use Rattle.rehearsal.specs.Responders.{Heard, Responder, in_state, refuses_all, no_trial, performs}
 use Rattle.rehearsal.specs.Runs.{start_verdict, item_verdict, verdict, done, Report, reported, report, run_of}
@@ -45,9 +44,6 @@ JudgedAs x (Refuses q) = (call_of x ≡ None) × TurnsDown x q
 JudgedAs x (Begins u) = AsksFor x u.pile u.stations × (one_to_sixteen u.stations ≡ true) × (ltb u.leader u.stations ≡ true)
 JudgedAs x (Asks c) = call_of x ≡ Some c
 
-in_size : (n : ℕ) → 1 ≤ n → n ≤ 16 → one_to_sixteen n ≡ true
-in_size n some few = rw (le-leb 1 n some, le-leb n 16 few) refl
-
 start_judged : (ops : List ℕ) (r : Result Pile Refusal) → Names (get_or ops 0 0) r → JudgedAs (command script.new ops) (start_verdict r (get_or ops 1 0) (get_or ops 2 0))
 start_judged ops (Err e) h = (refl, subst (λ (q : Refusal). TurnsDown (command script.new ops) q) (sym h.1) h.0)
 start_judged ops (Ok p) h =
@@ -55,23 +51,15 @@ start_judged ops (Ok p) h =
     let leader = get_or ops 2 0 in
     let J : Verdict → Type 0 = JudgedAs (command script.new ops) in
     cond_both (one_to_sixteen n) _ _ J
-    (λ counted.
-    let some = leb-true 1 n (and_parts (leb 1 n) (leb n 16) counted).0 in
-    let few = leb-true n 16 (and_parts (leb 1 n) (leb n 16) counted).1 in
-    cond_both (ltb leader n) _ _ J
-    (λ led. ((h, refl, few, ltb-true leader n led), counted, led))
-    (λ none. (refl, (p, h, some, few, ltb-false leader n none))))
-    (λ none. (refl, (p, h, λ some few. true≢false (sym (in_size n some few) ∙ none))))
+    (λ counted. cond_both (ltb leader n) _ _ J (λ led. grind (arith, nat_tests))
+    (λ none. let why : (1 ≤ n) × (n ≤ 16) × (n ≤ leader) = grind (arith, nat_tests) in (refl, (p, h, why.0, why.1, why.2))))
+    (λ none. (refl, (p, h, (grind (arith, nat_tests)))))
 
 item_judged : (x : Item) → JudgedAs x (item_verdict x)
-item_judged (broken q) = (refl, refl)
-item_judged (command script.new ops) = start_judged ops (pile_numbered (get_or ops 0 0)) (numbered_names (get_or ops 0 0))
-item_judged (command script.enter ops) = refl
-item_judged (command script.step ops) = refl
-item_judged (command script.stop ops) = refl
+item_judged x = grind (arith, λ (ops : List ℕ). start_judged ops (pile_numbered (get_or ops 0 0)) (numbered_names (get_or ops 0 0)))
 
 judged : (room : ℕ) (x : Item) → JudgedAs x (verdict room x)
-judged room x = cond_both (leb 48 room) _ _ (JudgedAs x) (λ _. item_judged x) (λ _. refl)
+judged room x = grind (arith, item_judged x)
 
 -- THE MARKS of a schedule are bytes
 
@@ -86,65 +74,25 @@ SmallItems (x ∷ xs) = SmallOf (call_of x) × SmallItems xs
 abbrev Bytes : List ℕ → Type 0
 Bytes bs = (i : ℕ) → get_or bs i 0 < marks
 
-operands_small : (k : Kind) (bs : List ℕ) → Bytes bs → SmallOf (call_of (command k (take (operands k) bs)))
-operands_small script.new bs h = tt
-operands_small script.enter bs h = subst (λ (v : ℕ). v < marks) (sym (get_or-take 2 bs 1 0 (omega arith))) (h 1)
-operands_small script.step bs h = tt
-operands_small script.stop bs h = tt
-
 item_small : (b : ℕ) (bs : List ℕ) → Bytes bs → SmallOf (call_of (item b bs))
-item_small b bs h =
-    let P : Item → Type 0 = λ x. SmallOf (call_of x) in
-    let with : (k : Kind) → P (with_operands k bs) = λ k. cond_both (leb (operands k) (length bs)) _ _ P (λ _. operands_small k bs h) (λ _. tt) in
-    cond_both (eqb b 78) _ _ P (λ _. with script.new)
-    (λ _. cond_both (eqb b 69) _ _ P (λ _. with script.enter)
-    (λ _. cond_both (eqb b 83) _ _ P (λ _. with script.step)
-    (λ _. cond_both (eqb b 76) _ _ P (λ _. with script.stop) (λ _. tt))))
+item_small b bs h = grind (arith, nat_tests, h 1, get_or-take)
 
 items_small : (n : ℕ) (bs : List ℕ) → Bytes bs → SmallItems (items n bs)
-items_small zero [] h = tt
-items_small (suc n) [] h = tt
+items_small n [] h = tt
 items_small zero (b ∷ bs) h = (item_small b bs (λ i. h (suc i)), items_small (tail (item b bs)) bs (λ i. h (suc i)))
 items_small (suc n) (b ∷ bs) h = items_small n bs (λ i. h (suc i))
 
 -- LISTS of commands with their lines
 
-nil_cons : {A : Type 0} {x : Listed} {xs : List Listed} → ◌≡◌ {A = List Listed} [] (x ∷ xs) → A
-nil_cons e = clash (absurd (omega (arith, ap length e)))
+later : {x y : Listed} {xs ys : List Listed} → ◌≡◌ {A = List Listed} (x ∷ xs) (y ∷ ys) → xs ≡ ys
+later e = cc
 
 nil_more : {A : Type 0} (xs : List Listed) (y : Listed) (ys : List Listed) → ◌≡◌ {A = List Listed} [] (xs ++ (y ∷ ys)) → A
-nil_more [] y ys e = nil_cons e
-nil_more (x ∷ xs) y ys e = nil_cons e
-
-abbrev item_in : Listed → Item
-item_in (x got l) = x
-
-abbrev line_in : Listed → Line
-line_in (x got l) = l
-
-abbrev first_or : Listed → List Listed → Listed
-first_or d [] = d
-first_or d (x ∷ xs) = x
-
-abbrev rest_of : List Listed → List Listed
-rest_of [] = []
-rest_of (x ∷ xs) = xs
-
-record Same (x : Item) (l : Line) (xs : List Listed) (y : Item) (k : Line) (ys : List Listed) : Type 0 where
-  items : y ≡ x
-  lines : k ≡ l
-  rest : xs ≡ ys
-
-same : (x : Item) (l : Line) (xs : List Listed) (y : Item) (k : Line) (ys : List Listed) → ◌≡◌ {A = List Listed} ((x got l) ∷ xs) ((y got k) ∷ ys) → Same x l xs y k ys
-same x l xs y k ys e =
-    let h : (y got k) ≡ (x got l) = ap (first_or (x got l)) (sym e) in
-    record { items = ap item_in h; lines = ap line_in h; rest = ap rest_of e }
+nil_more [] y ys e = clash (cc)
+nil_more (x ∷ xs) y ys e = clash (cc)
 
 answer_no_pile : (c : Call) (a : Answer) → is_pile (answer_line c a) ≡ false
-answer_no_pile c (Err q) = refl
-answer_no_pile c (Ok effect.Entered) = refl
-answer_no_pile c (Ok (effect.Stepped i o)) = refl
-answer_no_pile c (Ok effect.Stopped) = refl
+answer_no_pile c a = grind arith
 
 -- WITHOUT A NEW PILE the calls are put to one responder, one after another
 module _ {S : Type 0} (f : S → Call → Heard S) where
@@ -159,52 +107,40 @@ module _ {S : Type 0} (f : S → Call → Heard S) where
 
   no_calls : (x : S) (part after : List Listed) → [] ≡ part ++ after → Stretch x part
   no_calls x [] after e = record { calls = []; small = tt; told = refl }
-  no_calls x (p ∷ ps) after e = nil_cons e
+  no_calls x (p ∷ ps) after e = clash (cc)
 
   no_call : (x : S) (i y : Item) (k : Line) (q : Refusal) (ps : List Listed) → y ≡ i → k ≡ line.Refused q → (call_of i ≡ None) × TurnsDown i q → Stretch x ps → Stretch x ((y got k) ∷ ps)
-  no_call x i y k q ps is shown down s =
-      let events = events_of s.calls (heard x s.calls) in
-      let here = subst (λ (z : Item). TurnsDown z q) (sym is) down.1 in
-      record { calls = s.calls; small = s.small; told = subst (λ (o : Option Call). TellsOf o y k (Tells ps) events) (sym (ap call_of is ∙ down.0)) (q, shown, here, s.told) }
+  no_call x i y k q ps is shown down s = record { calls = s.calls; small = s.small; told = rw (is, down.0) (q, shown, down.1, s.told) }
 
   one_call : (x : S) (y : Item) (k : Line) (ps : List Listed) (c : Call) → call_of y ≡ Some c → Small c → k ≡ answer_line c (f x c).answer → Stretch (f x c).next ps → Stretch x ((y got k) ∷ ps)
-  one_call x y k ps c is small line s =
-      let after = heard (f x c).next s.calls in
-      record {
-        calls = c ∷ s.calls;
-        small = (small, s.small);
-        told = subst (λ (o : Option Call). TellsOf o y k (Tells ps) ((c gives (f x c).answer) ∷ events_of s.calls after)) (sym is) ((f x c).answer, events_of s.calls after, line, refl, s.told);
-      }
+  one_call x y k ps c is small line s = record {
+    calls = c ∷ s.calls;
+    small = (small, s.small);
+    told = rw is ((f x c).answer, events_of s.calls (heard (f x c).next s.calls), line, refl, s.told);
+  }
 
   abbrev Stretches : List Item → Type 0
   Stretches xs = (room : ℕ) (x : S) (part after : List Listed) → beside (report xs room (in_state f x)).lines xs ≡ part ++ after → WithoutPile part → Stretch x part
 
   one_line : (i : Item) (is : List Item) → SmallOf (call_of i) → Stretches is → (room : ℕ) (x : S) (y : Item) (k : Line) (ps after : List Listed) (v : Verdict) → JudgedAs i v →
       beside (reported (done v (in_state f x)) (1 + tail i) room (report is)).lines (i ∷ is) ≡ (y got k) ∷ (ps ++ after) → WithoutPile ((y got k) ∷ ps) → Stretch x ((y got k) ∷ ps)
-  one_line i is small rest room x y k ps after (Ends q) j e none = nil_cons e
-  one_line i is small rest room x y k ps after (Halts q) j e none =
-      let h = same i _ _ y k (ps ++ after) e in
-      no_call x i y k q ps h.items h.lines j (no_calls x ps after h.rest)
-  one_line i is small rest room x y k ps after (Refuses q) j e none =
-      let h = same i _ _ y k (ps ++ after) e in
-      no_call x i y k q ps h.items h.lines j (rest _ x ps after h.rest none.1)
-  one_line i is small rest room x y k ps after (Begins u) j e none =
-      let h = same i _ _ y k (ps ++ after) e in
-      absurd (true≢false (sym (ap is_pile h.lines) ∙ none.0))
+  one_line i is small rest room x y k ps after (Ends q) j e none = clash (cc)
+  one_line i is small rest room x y k ps after (Halts q) j e none = no_call x i y k q ps (cc) (cc) j (no_calls x ps after (later e))
+  one_line i is small rest room x y k ps after (Refuses q) j e none = no_call x i y k q ps (cc) (cc) j (rest _ x ps after (later e) none.1)
+  one_line i is small rest room x y k ps after (Begins u) j e none = absurd (grind arith)
   one_line i is small rest room x y k ps after (Asks c) j e none =
-      let h = same i _ _ y k (ps ++ after) e in
-      one_call x y k ps c (ap call_of h.items ∙ j) (subst SmallOf j small) h.lines (rest _ (f x c).next ps after h.rest none.1)
+      let is_i : y ≡ i = cc in
+      one_call x y k ps c (rw is_i j) (rw j at small) (cc) (rest _ (f x c).next ps after (later e) none.1)
 
   stretch : (xs : List Item) → SmallItems xs → Stretches xs
   stretch xs small room x [] after e none = record { calls = []; small = tt; told = refl }
-  stretch [] small room x (p ∷ ps) after e none = nil_cons e
+  stretch [] small room x (p ∷ ps) after e none = clash (cc)
   stretch (i ∷ is) small room x ((y got k) ∷ ps) after e none = one_line i is small.0 (stretch is small.1) room x y k ps after (verdict room i) (judged room i) e none
 
 -- BEFORE THE FIRST PILE
 all_refused : (calls : List Call) (c : Call) (a : Answer) → Among (c gives a) (events_of calls (heard refuses_all tt calls)) → a ≡ Err NoPile
 all_refused [] c a h = absurd h
-all_refused (k ∷ ks) c a (inl e) = cc
-all_refused (k ∷ ks) c a (inr h) = all_refused ks c a h
+all_refused (k ∷ ks) c a h = grind (arith, all_refused ks c a)
 
 turned_away : (part : List Listed) → Stretch refuses_all tt part → TurnedAway part
 turned_away part s = record { events = events_of s.calls (heard refuses_all tt s.calls); told = s.told; refused = all_refused s.calls }
@@ -212,7 +148,7 @@ turned_away part s = record { events = events_of s.calls (heard refuses_all tt s
 -- A TRIAL
 heard_answers : (m : Machine) (x : TrialState m.State) (calls : List Call) → heard (performs m) x calls ≡ answers m x calls
 heard_answers m x [] = refl
-heard_answers m x (c ∷ cs) = ap {B = List Answer} (λ r. (perform m x c).answer ∷ r) (heard_answers m (perform m x c).next cs)
+heard_answers m x (c ∷ cs) = simp (heard_answers m (perform m x c).next cs)
 
 module _ (d : Built) (n : ℕ) (ready : ReadyPile n d) where
   abbrev m : Machine
@@ -234,10 +170,9 @@ module _ (d : Built) (n : ℕ) (ready : ReadyPile n d) where
       let refused = trial_refusal d.machine d.start in
       record {
         events = all;
-        told = subst (λ (given : List Answer). Tells part (events_of calls given)) (heard_answers m x calls) s.told;
+        told = rw (heard_answers m x calls) at s.told;
         record_of = m.record_of (last m x calls).object;
-        law = subst (λ (b : Bool). Lawful (m.stations x.object) (m.limit x.object) b all (m.record_of (last m x calls).object)) ratifying
-            (lawful_trial d.machine d.deciding d.start d.reached calls s.small);
+        law = rw ratifying at (lawful_trial d.machine d.deciding d.start d.reached calls s.small);
         range = in_range m (refusable_deciding d.machine d.deciding) (with_refusal d.start refused)
             (trial_reached d.machine d.deciding d.start d.reached refused) (trial_away d.machine d.deciding d.start d.reached refused refl) calls s.small;
       }
@@ -250,12 +185,7 @@ module _ (d : Built) (n : ℕ) (ready : ReadyPile n d) where
       let count : k ≡ m.stations x.object = cc in
       let short : limit ≡ m.limit x.object = cc in
       let narrow : registers ≡ m.registers x.object = cc in
-      let here = subst (λ (z : Item). AsksFor z q n) (sym item) asked in
-      let named = subst (λ (z : Pile). AsksFor y z n) (sym pile) here in
-      let counted = subst (λ (z : ℕ). AsksFor y p z) (sym (count ∙ stations)) named in
-      let one = subst (λ (z : ℕ). OneTrial z (m.limit x.object) (m.registers x.object) part) (sym count) trial in
-      let two = subst (λ (z : ℕ). OneTrial k z (m.registers x.object) part) (sym short) one in
-      (counted, subst (λ (z : ℕ). OneTrial k limit z part) (sym narrow) two)
+      (rw (item, pile, count, stations) asked, rw (count, short, narrow) trial)
 
 -- FROM A PILE'S LINE ON
 abbrev Trials : List Item → Type 1
@@ -266,29 +196,28 @@ Trials xs = (room : ℕ) (st : Responder) (before trial after : List Listed) (y 
 this_line : (i : Item) (is : List Item) → SmallItems is → (room : ℕ) (st : Responder) (trial after : List Listed) (y : Item) (p : Pile) (n limit registers : ℕ) (v : Verdict) → JudgedAs i v →
     beside (reported (done v st) (1 + tail i) room (report is)).lines (i ∷ is) ≡ (y got line.Pile p n limit registers) ∷ (trial ++ after) → WithoutPile trial →
     AsksFor y p n × OneTrial n limit registers trial
-this_line i is small room st trial after y p n limit registers (Ends q) j e none = nil_cons e
-this_line i is small room st trial after y p n limit registers (Halts q) j e none =
-    let h = same i _ _ y (line.Pile p n limit registers) (trial ++ after) e in absurd (true≢false (ap is_pile h.lines))
-this_line i is small room st trial after y p n limit registers (Refuses q) j e none =
-    let h = same i _ _ y (line.Pile p n limit registers) (trial ++ after) e in absurd (true≢false (ap is_pile h.lines))
+this_line i is small room st trial after y p n limit registers (Ends q) j e none = clash (cc)
+this_line i is small room st trial after y p n limit registers (Halts q) j e none = clash (cc)
+this_line i is small room st trial after y p n limit registers (Refuses q) j e none = clash (cc)
 this_line i is small room st trial after y p n limit registers (Asks c) j e none =
-    let h = same i _ _ y (line.Pile p n limit registers) (trial ++ after) e in absurd (true≢false (ap is_pile h.lines ∙ answer_no_pile c _))
+    let a = (st.answers st.state c).answer in
+    let shown : line.Pile p n limit registers ≡ answer_line c a = cc in
+    absurd (true≢false (ap is_pile shown ∙ answer_no_pile c a))
 this_line i is small room st trial after y p n limit registers (Begins u) j e none =
     let d = built u.pile u.stations u.leader in
     let ready = piles_ready u.pile u.stations u.leader j.1 j.2 in
-    let h = same i _ _ y (line.Pile p n limit registers) (trial ++ after) e in
-    let s = stretch (performs (refusable d.machine)) is small _ (new_trial d.machine d.start) trial after h.rest none in
-    pile_begins d u.stations ready i y u.pile p n limit registers trial h.items h.lines j.0 (one_trial d u.stations ready trial s)
+    let s = stretch (performs (refusable d.machine)) is small _ (new_trial d.machine d.start) trial after (later e) none in
+    pile_begins d u.stations ready i y u.pile p n limit registers trial (cc) (cc) j.0 (one_trial d u.stations ready trial s)
 
 -- it is a later one
 later_line : (i : Item) (is : List Item) → Trials is → (room : ℕ) (st : Responder) (b : Listed) (before trial after : List Listed) (y : Item) (p : Pile) (n limit registers : ℕ) (v : Verdict) →
     beside (reported (done v st) (1 + tail i) room (report is)).lines (i ∷ is) ≡ b ∷ (before ++ ((y got line.Pile p n limit registers) ∷ (trial ++ after))) → WithoutPile trial →
     AsksFor y p n × OneTrial n limit registers trial
-later_line i is rest room st b before trial after y p n limit registers (Ends q) e none = nil_cons e
-later_line i is rest room st b before trial after y p n limit registers (Halts q) e none = nil_more before _ _ (ap rest_of e)
-later_line i is rest room st b before trial after y p n limit registers (Refuses q) e none = rest _ _ before trial after y p n limit registers (ap rest_of e) none
-later_line i is rest room st b before trial after y p n limit registers (Begins u) e none = rest _ _ before trial after y p n limit registers (ap rest_of e) none
-later_line i is rest room st b before trial after y p n limit registers (Asks c) e none = rest _ _ before trial after y p n limit registers (ap rest_of e) none
+later_line i is rest room st b before trial after y p n limit registers (Ends q) e none = clash (cc)
+later_line i is rest room st b before trial after y p n limit registers (Halts q) e none = nil_more before _ _ (later e)
+later_line i is rest room st b before trial after y p n limit registers (Refuses q) e none = rest _ _ before trial after y p n limit registers (later e) none
+later_line i is rest room st b before trial after y p n limit registers (Begins u) e none = rest _ _ before trial after y p n limit registers (later e) none
+later_line i is rest room st b before trial after y p n limit registers (Asks c) e none = rest _ _ before trial after y p n limit registers (later e) none
 
 trials : (xs : List Item) → SmallItems xs → Trials xs
 trials [] small room st before trial after y p n limit registers e none = nil_more before _ _ e
@@ -301,16 +230,9 @@ record Counted (xs : List Item) (r : Report) : Type 0 where
   at_most : length r.lines ≤ length xs
   each : r.ended ≡ None → length r.lines ≡ length xs
 
-one_more_counted : (i : Item) (is : List Item) (l : Line) (size : ℕ) (r : Report) → Counted is r → Counted (i ∷ is) (record { lines = l ∷ r.lines; consumed = size + r.consumed; ended = r.ended })
-one_more_counted i is l size r h = record { at_most = omega (arith, h.at_most); each = λ e. omega (arith, h.each e) }
-
 done_counted : (i : Item) (is : List Item) → ((room : ℕ) (st : Responder) → Counted is (report is room st)) → (room : ℕ) (st : Responder) (v : Verdict) → JudgedAs i v →
     Counted (i ∷ is) (reported (done v st) (1 + tail i) room (report is))
-done_counted i is rest room st (Ends q) j = record { at_most = omega arith; each = λ e. clash cc }
-done_counted i is rest room st (Halts q) j = record { at_most = omega arith; each = λ e. clash cc }
-done_counted i is rest room st (Refuses q) j = one_more_counted i is _ _ _ (rest _ st)
-done_counted i is rest room st (Begins u) j = one_more_counted i is _ _ _ (rest _ _)
-done_counted i is rest room st (Asks c) j = one_more_counted i is _ _ _ (rest _ _)
+done_counted i is rest room st v j = grind (arith, rest)
 
 counted : (xs : List Item) (room : ℕ) (st : Responder) → Counted xs (report xs room st)
 counted [] room st = record { at_most = omega arith; each = λ e. refl }

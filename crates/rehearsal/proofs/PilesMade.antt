@@ -1,6 +1,7 @@
 -- Every pile that an N can ask for is made.
-use Rattle.std.proofs.Common.{◌≡◌, ℕ, ◌+◌, ◌≤◌, Bool, true, false, ◌||◌, ltb, leb, List, replicate, None, sym, refl, ◌∙◌, subst, arith}
-use Rattle.std.proofs.lemmas.Bool.{and_parts, leb-true, le-leb, eq-eqb}
+use Rattle.std.proofs.Common.{◌≡◌, ℕ, ◌+◌, ◌≤◌, Bool, true, false, ◌||◌, ltb, List, replicate, None, sym, refl, ◌∙◌, arith}
+use Rattle.std.proofs.lemmas.Bool.Decides.{nat_tests}
+use Rattle.std.proofs.lemmas.Bool.{le-leb, eq-eqb}
 use Rattle.deciding.specs.declared.record.Record.TheVariants.{Away}
 use Rattle.deciding.specs.Sizes.{one_to_sixteen}
 use Rattle.deciding.proofs.AwayTests.{away_all}
@@ -46,9 +47,9 @@ pub record ReadyPile (n : ℕ) (d : Built) : Type 0 where
   pub stations : d.machine.stations d.start ≡ n
   pub ratifying : d.machine.ratifying d.start ≡ true
 
-one_ready : {Setup Phase : Type 0} (p : Protocol Setup Phase) {Meets : Phase → ℕ → Type 0} (kept : Kept p Meets) (u : Setup) (xs : List ℕ) (limit registers : ℕ) →
+one_ready : {Setup Phase : Type 0} (p : Protocol Setup Phase) {Meets : Phase → ℕ → Type 0} (kept : Kept p Meets) (u : Setup) (xs : List ℕ) {limit registers : ℕ} →
     refusal_of p u xs ≡ None → p.limit u ≤ limit → p.registers u ≤ registers → Ready (p.stations u) limit registers p.ratifying (one_machine p kept u xs)
-one_ready p kept u xs limit registers passed short narrow = record {
+one_ready p kept u xs passed short narrow = record {
   stations = rw passed refl;
   ratifies = rw passed refl;
   short = rw passed short;
@@ -56,12 +57,12 @@ one_ready p kept u xs limit registers passed short narrow = record {
   away = λ s. rw passed (fresh_away p u xs s);
 }
 
-module _ (n : ℕ) (few : one_to_sixteen n ≡ true) where
-  counted : (d : Built) (l r : ℕ) {t : Bool} → Ready n l r t d → one_to_sixteen (d.machine.stations d.start) ≡ true
-  counted d l r ready = rw ready.stations few
+module _ {n : ℕ} (few : one_to_sixteen n ≡ true) where
+  counted : {d : Built} {l r : ℕ} {t : Bool} → Ready n l r t d → one_to_sixteen (d.machine.stations d.start) ≡ true
+  counted ready = rw ready.stations few
 
-  sequence_ready : (a b : Built) (l r j k : ℕ) {t u : Bool} → Ready n l r t a → Ready n j k u b → l + j ≤ 1000 → r + k ≤ 1000 → Ready n (l + j) (r + k) (t || u) (in_sequence a b)
-  sequence_ready a b l r j k ready_a ready_b short narrow =
+  sequence_ready : {a b : Built} {l r j k : ℕ} {t u : Bool} → Ready n l r t a → Ready n j k u b → l + j ≤ 1000 → r + k ≤ 1000 → Ready n (l + j) (r + k) (t || u) (in_sequence a b)
+  sequence_ready {a = a} {b = b} ready_a ready_b short narrow =
       let m = a.machine in
       let o = b.machine in
       let x = a.start in
@@ -70,8 +71,8 @@ module _ (n : ℕ) (few : one_to_sixteen n ≡ true) where
       let room : m.registers x + o.registers y ≤ 1000 = omega (arith, ready_a.narrow, ready_b.narrow) in
       let passed : sequence_refusal m o x y ≡ None =
       rw (
-        counted a l r ready_a,
-        counted b j k ready_b,
+        counted ready_a,
+        counted ready_b,
         eq-eqb (m.stations x) (o.stations y) (ready_a.stations ∙ sym ready_b.stations),
         away_all (m.record_of x) ready_a.away 16,
         away_all (o.record_of y) ready_b.away 16,
@@ -86,40 +87,40 @@ module _ (n : ℕ) (few : one_to_sixteen n ≡ true) where
         away = λ s. rw (passed, ready_a.away s) refl;
       }
 
-  trial_ready : (d : Built) (l r : ℕ) → Ready n l r true d → ReadyPile n d
-  trial_ready d l r ready = record {
-    made = rw (counted d l r ready, away_all (d.machine.record_of d.start) ready.away 16) refl;
+  trial_ready : {d : Built} {l r : ℕ} → Ready n l r true d → ReadyPile n d
+  trial_ready {d = d} ready = record {
+    made = rw (counted ready, away_all (d.machine.record_of d.start) ready.away 16) refl;
     stations = ready.stations;
     ratifying = ready.ratifies;
   }
 
   at_most : n ≤ 16
-  at_most = leb-true n 16 (and_parts (leb 1 n) (leb n 16) few).1
+  at_most = grind (arith, nat_tests)
 
   collect_ready : Ready n 34 32 true (collect_pile n)
   collect_ready =
       let most = at_most in
-      one_ready collect collect_kept (record { stations = n }) cells 34 32 (passes collect (record { stations = n }) 64 few refl (omega arith)) (omega arith) (omega arith)
+      one_ready collect collect_kept (record { stations = n }) cells (passes collect (record { stations = n }) 64 few refl (omega arith)) (omega arith) (omega arith)
 
   coin_ready : Ready n 19 1 false (coin_pile n)
   coin_ready =
       let most = at_most in
-      one_ready coin_conciliator coin_kept (record { stations = n }) cells 19 1 (passes coin_conciliator (record { stations = n }) 64 few refl (omega arith)) (omega (arith, doublings_few n)) (omega arith)
+      one_ready coin_conciliator coin_kept (record { stations = n }) cells (passes coin_conciliator (record { stations = n }) 64 few refl (omega arith)) (omega (arith, doublings_few n)) (omega arith)
 
   leader_ready : (leader : ℕ) → ltb leader n ≡ true → Ready n 1 1 false (leader_pile n leader)
   leader_ready leader led =
       let u : Leader = record { stations = n; leader = leader } in
-      one_ready leader_conciliator leader_kept u cells 1 1 (passes leader_conciliator u 64 few (rw led refl) (omega arith)) (omega arith) (omega arith)
+      one_ready leader_conciliator leader_kept u cells (passes leader_conciliator u 64 few (rw led refl) (omega arith)) (omega arith) (omega arith)
 
   bit_pairs_ready : (k : ℕ) → 17 ≤ k → Ready n 18 17 true (bit_pairs_pile n (replicate k 0))
   bit_pairs_ready k room =
       let u : Quorum BitPairs = record { stations = n; table = record {} } in
-      one_ready (quorum BitPairs bit_pairs) (quorum_kept BitPairs bit_pairs bit_pairs_lawful) u (replicate k 0) 18 17 (passes (quorum BitPairs bit_pairs) u k few refl room) (omega arith) (omega arith)
+      one_ready (quorum BitPairs bit_pairs) (quorum_kept BitPairs bit_pairs bit_pairs_lawful) u (replicate k 0) (passes (quorum BitPairs bit_pairs) u k few refl room) (omega arith) (omega arith)
 
   half_sets_ready : Ready n 13 12 true (half_sets_pile n)
   half_sets_ready =
       let u : Quorum HalfSets = record { stations = n; table = record {} } in
-      one_ready (quorum HalfSets half_sets) (quorum_kept HalfSets half_sets half_sets_lawful) u cells 13 12 (passes (quorum HalfSets half_sets) u 64 few refl (omega arith)) (omega arith) (omega arith)
+      one_ready (quorum HalfSets half_sets) (quorum_kept HalfSets half_sets half_sets_lawful) u cells (passes (quorum HalfSets half_sets) u 64 few refl (omega arith)) (omega arith) (omega arith)
 
 -- a cleared card is an empty board of 17 registers
 card_empty : card ≡ replicate 17 0
@@ -128,26 +129,17 @@ card_empty = refl
 
 pub piles_ready : (p : Pile) (n leader : ℕ) → one_to_sixteen n ≡ true → ltb leader n ≡ true → ReadyPile n (built p n leader)
 unfolding built
-piles_ready name.Collect n leader few led = trial_ready n few (collect_pile n) 34 32 (collect_ready n few)
-piles_ready name.Quorum n leader few led =
-    trial_ready n few (bit_pairs_pile n card) 18 17 (subst (λ (xs : List ℕ). Ready n 18 17 true (bit_pairs_pile n xs)) (sym card_empty) (bit_pairs_ready n few 17 (omega arith)))
-piles_ready name.CoinCollect n leader few led =
-    trial_ready n few (in_sequence (coin_pile n) (collect_pile n)) 53 33 (sequence_ready n few (coin_pile n) (collect_pile n) 19 1 34 32 (coin_ready n few) (collect_ready n few) (omega arith) (omega arith))
-piles_ready name.LeaderQuorum n leader few led =
-    trial_ready n few (in_sequence (leader_pile n leader) (half_sets_pile n)) 14 13
-    (sequence_ready n few (leader_pile n leader) (half_sets_pile n) 1 1 13 12 (leader_ready n few leader led) (half_sets_ready n few) (omega arith) (omega arith))
+piles_ready name.Collect n leader few led = trial_ready few (collect_ready few)
+piles_ready name.Quorum n leader few led = rw card_empty (trial_ready few (bit_pairs_ready few 17 (omega arith)))
+piles_ready name.CoinCollect n leader few led = trial_ready few (sequence_ready few (coin_ready few) (collect_ready few) (omega arith) (omega arith))
+piles_ready name.LeaderQuorum n leader few led = trial_ready few (sequence_ready few (leader_ready few leader led) (half_sets_ready few) (omega arith) (omega arith))
 piles_ready name.CollectCoinQuorum n leader few led =
-    let back = in_sequence (coin_pile n) (bit_pairs_pile n cells) in
-    trial_ready n few (in_sequence (collect_pile n) back) 71 50
-    (sequence_ready n few (collect_pile n) back 34 32 37 18 (collect_ready n few)
-    (sequence_ready n few (coin_pile n) (bit_pairs_pile n cells) 19 1 18 17 (coin_ready n few) (bit_pairs_ready n few 64 (omega arith)) (omega arith) (omega arith)) (omega arith) (omega arith))
+    let back = sequence_ready few (coin_ready few) (bit_pairs_ready few 64 (omega arith)) (omega arith) (omega arith) in
+    trial_ready few (sequence_ready few (collect_ready few) back (omega arith) (omega arith))
 piles_ready name.QuorumLeaderCoinCollect n leader few led =
-    let front = in_sequence (half_sets_pile n) (leader_pile n leader) in
-    let back = in_sequence (coin_pile n) (collect_pile n) in
-    trial_ready n few (in_sequence front back) 67 46
-    (sequence_ready n few front back 14 13 53 33
-    (sequence_ready n few (half_sets_pile n) (leader_pile n leader) 13 12 1 1 (half_sets_ready n few) (leader_ready n few leader led) (omega arith) (omega arith))
-    (sequence_ready n few (coin_pile n) (collect_pile n) 19 1 34 32 (coin_ready n few) (collect_ready n few) (omega arith) (omega arith)) (omega arith) (omega arith))
+    let front = sequence_ready few (half_sets_ready few) (leader_ready few leader led) (omega arith) (omega arith) in
+    let back = sequence_ready few (coin_ready few) (collect_ready few) (omega arith) (omega arith) in
+    trial_ready few (sequence_ready few front back (omega arith) (omega arith))
 
 pub piles_made : PilesMade
 piles_made p n leader few led = let ready = piles_ready p n leader few led in (ready.made, ready.stations)

@@ -1,8 +1,7 @@
 -- How a run ends, by its report.
-use Rattle.std.proofs.Common.{◌≡◌, ℕ, ◌+◌, ◌-◌, ◌≤◌, leb, List, [], ◌∷◌, ◌++◌, length, drop, Some, Option, sym, refl, ap, ◌∙◌, arith, length-append}
-use Rattle.std.proofs.lemmas.Bool.{cond-true, le-leb}
+use Rattle.std.proofs.Common.{◌≡◌, ℕ, ◌+◌, ◌-◌, ◌≤◌, List, [], ◌∷◌, ◌++◌, length, drop, Some, Option, sym, refl, ap, ◌∙◌, arith, length-append}
+use Rattle.std.proofs.lemmas.Bool.{le-leb}
 use Rattle.refusal.specs.declared.Refusal.{Refusal}
-use Rattle.refusal.specs.declared.Refusal.TheVariants.{ScheduleTooLong}
 use Rattle.listing.specs.declared.line.Line.{Line}
 use Rattle.listing.specs.Over.{over}
 use Rattle.listing.specs.Lines.{text}
@@ -77,9 +76,7 @@ module _ (bs old after : List ℕ) (p w : ℕ) (q : Option Refusal) where
   unfolding final
   ran few e =
       let room : length old - 0 ≡ length old = omega arith in
-      let is : report (script bs) (length old - 0) no_trial ≡ r =
-      ap (λ k. report (script bs) k no_trial) room
-      ∙ sym (cond-true (leb (length bs) 4096) (report (script bs) (length old) no_trial) (record { lines = []; consumed = 0; ended = Some ScheduleTooLong }) (le-leb (length bs) 4096 few)) in
+      let is : report (script bs) (length old - 0) no_trial ≡ r = rw (room, le-leb (length bs) 4096 few) refl in
       let f : record { listing = after; consumed = p; written = w; ended = q } ≡ final 0 old 0 r =
       sym e ∙ finishes (script bs) 0 old 0 no_trial (omega arith) ∙ ap (final 0 old 0) is in
       record {

@@ -1,5 +1,5 @@
 -- One command of a run: what is to come before it, and after it.
-use Rattle.std.proofs.Common.{◌≡◌, ℕ, ◌+◌, ◌-◌, ◌≤◌, ltb, List, [], ◌∷◌, length, drop, Some, None, Ok, Err, Option, Result, sym, refl, ap, ◌∙◌, inl, inr, append-nil, arith}
+use Rattle.std.proofs.Common.{◌≡◌, ℕ, ◌+◌, ◌-◌, ◌≤◌, ltb, List, [], ◌∷◌, length, drop, Some, None, Option, Result, sym, refl, ◌∙◌, inl, inr, append-nil, arith}
 use Rattle.std.proofs.lemmas.Bool.{cond-true, cond-false, lt-ltb, le-ltb, cases_lt}
 use Rattle.refusal.specs.declared.Refusal.{Refusal}
 use Rattle.listing.specs.declared.line.Line.{Line}
@@ -14,7 +14,7 @@ use Rattle.schedule.proofs.Scripts.{script_at, script_end}
 use Rattle.trial.specs.declared.call.Call.{Call}
 use Rattle.trial.specs.Answers.{Answer}
 use Rattle.rehearsal.specs.declared.verdict.Verdict.{Verdict}
-use Rattle.rehearsal.specs.declared.verdict.Verdict.TheVariants.{Ends, Halts, Refuses, Begins, Asks}
+use Rattle.rehearsal.specs.declared.verdict.Verdict.TheVariants.{Ends, Halts, Refuses, Asks}
 use Rattle.rehearsal.specs.Lines.{answer_line, listed}
 use Rattle.rehearsal.specs.Responders.{Responder, Heard, in_state}
 use Rattle.rehearsal.specs.Runs.{verdict, done}
@@ -23,11 +23,7 @@ use Rattle.rehearsal.specs.Serving.{past, Judges, Final, went, finish}
 -- what follows a command that ends the run does not matter, and otherwise the command is passed
 after : (v : Verdict) (st : Responder) (bs : List ℕ) (p n : ℕ) (bytes : List ℕ) (w : ℕ) →
     went (done v st) (past v p n) bytes w (finish (script (drop (p + n) bs))) ≡ went (done v st) (past v p n) bytes w (finish (script (drop (past v p n) bs)))
-after (Ends q) st bs p n bytes w = refl
-after (Halts q) st bs p n bytes w = refl
-after (Refuses q) st bs p n bytes w = refl
-after (Begins u) st bs p n bytes w = refl
-after (Asks c) st bs p n bytes w = refl
+after v st bs p n bytes w = grind arith
 
 none_listed : (bytes : List ℕ) (w : ℕ) → (bytes ≡ over bytes w (listed [])) × (w ≡ w + length (listed []))
 unfolding listed
@@ -39,25 +35,14 @@ turn bs p bytes w st r q j =
     elim (cases_lt p (length bs)) [
       | inl h ↦
           let x = reading bs p in
-          let n = 1 + tail x in
           let v = verdict (length bytes - w) x in
           let is : r ≡ v = j.0 ∙ cond-true (ltb p (length bs)) v (Ends None) (lt-ltb p (length bs) h) in
-          let at : q ≡ past v p n = j.1 ∙ ap (λ u. past u p n) is in
-          let size : p + 1 + tail x ≡ p + n = omega arith in
-          ap (λ xs. finish xs p bytes w st) (script_at bs p h)
-          ∙ ap (λ k. went (done v st) (past v p n) bytes w (finish (script (drop k bs)))) size
-          ∙ after v st bs p n bytes w
-          ∙ ap (λ k. went (done v st) k bytes w (finish (script (drop k bs)))) (sym at)
-          ∙ ap (λ u. went (done u st) q bytes w (finish (script (drop q bs)))) (sym is)
+          let size : p + 1 + tail x ≡ p + (1 + tail x) = omega arith in
+          rw (j.1, is, script_at bs p h, size) (after v st bs p (1 + tail x) bytes w)
       | inr h ↦
           let is : r ≡ Ends None = j.0 ∙ cond-false (ltb p (length bs)) (verdict (length bytes - w) (reading bs p)) (Ends None) (le-ltb p (length bs) h) in
-          let at : q ≡ p = j.1 ∙ ap (λ u. past u p (1 + tail (reading bs p))) is in
           let none = none_listed bytes w in
-          ap (λ xs. finish xs p bytes w st) (script_end bs p h)
-          ∙ ap (λ b. record { listing = b; consumed = p; written = w; ended = None }) none.0
-          ∙ ap (λ k. record { listing = over bytes w (listed []); consumed = p; written = k; ended = None }) none.1
-          ∙ ap (λ k. went (done (Ends None) st) k bytes w (finish (script (drop k bs)))) (sym at)
-          ∙ ap (λ u. went (done u st) q bytes w (finish (script (drop q bs)))) (sym is)
+          rw (j.1, is, script_end bs p h, ← none.0, ← none.1) refl
     ]
 
 -- a list of one line
@@ -67,48 +52,32 @@ one_listed q = append-nil (text (Refused q))
 
 -- a line for which there was room was put
 pub put_stands : (bs : List ℕ) (at : ℕ) (l : Line) (r : Result (Unit {0}) Refusal) (end : ℕ) (new : List ℕ) → 48 ≤ length bs - at → Appends bs at l r end new → Stands bs at l end new
-put_stands bs at l (Ok u) end new room put = put
-put_stands bs at l (Err e) end new room put = absurd (omega (arith, room, put.0.0))
+put_stands bs at l r end new room put = grind arith
 
 -- A run that ends as `whole` tells stands at p, and the next command was judged; `seen` is the schedule after that.
 module _ (whole : Final) (bs seen : List ℕ) (p : ℕ) (bytes : List ℕ) (w q : ℕ) (same : seen ≡ bs) where
   pub on : (st : Responder) (r : Verdict) → whole ≡ finish (script (drop p bs)) p bytes w st → Judges bs p (length bytes - w) r q →
       whole ≡ went (done r st) q bytes w (finish (script (drop q seen)))
-  on st r here j = here ∙ turn bs p bytes w st r q j ∙ ap (λ b. went (done r st) q bytes w (finish (script (drop q b)))) (sym same)
+  on st r here j = rw same (here ∙ turn bs p bytes w st r q j)
 
   pub on_ends : (st : Responder) (k : Option Refusal) → whole ≡ finish (script (drop p bs)) p bytes w st → Judges bs p (length bytes - w) (Ends k) q →
       whole ≡ record { listing = bytes; consumed = q; written = w; ended = k }
   on_ends st k here j =
       let none = none_listed bytes w in
-      on st (Ends k) here j
-      ∙ ap (λ b. record { listing = b; consumed = q; written = w + length (listed []); ended = k }) (sym none.0)
-      ∙ ap (λ e. record { listing = bytes; consumed = q; written = e; ended = k }) (sym none.1)
+      rw (← none.0, ← none.1) at (on st (Ends k) here j)
 
   -- a line was put
   module _ (end : ℕ) (after : List ℕ) where
     pub on_halts : (st : Responder) (k : Refusal) → whole ≡ finish (script (drop p bs)) p bytes w st → Judges bs p (length bytes - w) (Halts k) q →
         Stands bytes w (Refused k) end after → whole ≡ record { listing = after; consumed = q; written = end; ended = Some k }
-    on_halts st k here j put =
-        on st (Halts k) here j
-        ∙ ap (λ b. record { listing = over bytes w b; consumed = q; written = w + length b; ended = Some k }) (one_listed k)
-        ∙ ap (λ b. record { listing = b; consumed = q; written = w + length (text (Refused k)); ended = Some k }) (sym put.after)
-        ∙ ap (λ n. record { listing = after; consumed = q; written = n; ended = Some k }) (sym put.ends)
+    on_halts st k here j put = rw (put.after, put.ends) (rw (one_listed k) at (on st (Halts k) here j))
 
     pub on_refuses : (st : Responder) (k : Refusal) → whole ≡ finish (script (drop p bs)) p bytes w st → Judges bs p (length bytes - w) (Refuses k) q →
         Stands bytes w (Refused k) end after → whole ≡ finish (script (drop q seen)) q after end st
-    on_refuses st k here j put =
-        on st (Refuses k) here j
-        ∙ ap (λ b. finish (script (drop q seen)) q b (w + length (text (Refused k))) st) (sym put.after)
-        ∙ ap (λ n. finish (script (drop q seen)) q after n st) (sym put.ends)
+    on_refuses st k here j put = rw (put.after, put.ends) (on st (Refuses k) here j)
 
     -- a call is answered
     pub on_asks : {X : Type 0} (f : X → Call → Heard X) (x y : X) (c : Call) (a : Answer) (l : Line) → whole ≡ finish (script (drop p bs)) p bytes w (in_state f x) →
         Judges bs p (length bytes - w) (Asks c) q → a ≡ (f x c).answer → y ≡ (f x c).next → l ≡ answer_line c a →
         Stands bytes w l end after → whole ≡ finish (script (drop q seen)) q after end (in_state f y)
-    on_asks f x y c a l here j is_a is_y is_l put =
-        let is : l ≡ answer_line c (f x c).answer = is_l ∙ ap (answer_line c) is_a in
-        on (in_state f x) (Asks c) here j
-        ∙ ap (λ (k : Line). finish (script (drop q seen)) q (over bytes w (text k)) (w + length (text k)) (in_state f (f x c).next)) (sym is)
-        ∙ ap (λ z. finish (script (drop q seen)) q (over bytes w (text l)) (w + length (text l)) (in_state f z)) (sym is_y)
-        ∙ ap (λ b. finish (script (drop q seen)) q b (w + length (text l)) (in_state f y)) (sym put.after)
-        ∙ ap (λ n. finish (script (drop q seen)) q after n (in_state f y)) (sym put.ends)
+    on_asks f x y c a l here j is_a is_y is_l put = rw (is_y, put.after, put.ends, is_l, is_a) (on (in_state f x) (Asks c) here j)

@@ -1,5 +1,5 @@
 -- What a run lists and answers, for every schedule and every length of the listing.
-use Rattle.std.specs.Prelude.{ℕ, ◌+◌, ◌-◌, cond, List, [], ◌∷◌, length, Some, None, Ok, Err, Option, Result, nat_le, nat_lt, slice_index}
+use Rattle.std.specs.Prelude.{ℕ, ◌+◌, ◌-◌, if◌then◌else◌, List, [], ◌∷◌, length, Some, None, Ok, Err, Option, Result, nat_le, nat_lt, slice_index}
 use Rattle.refusal.specs.declared.Refusal.{Refusal}
 use Rattle.refusal.specs.declared.Refusal.TheVariants.{ScheduleTooLong, ListingFull, StationCount, LeaderOutOfRange}
 use Rattle.deciding.specs.Machine.{Machine}
@@ -26,9 +26,9 @@ use Rattle.rehearsal.specs.Responders.{Responder, in_state, no_trial, trial_in}
 abbrev pub start_verdict : Result Pile Refusal → ℕ → ℕ → Verdict
 start_verdict (Err e) n leader = Refuses e
 start_verdict (Ok p) n leader =
-    cond (one_to_sixteen n)
-    (cond (nat_lt leader n) (Begins (record { pile = p; stations = n; leader = leader })) (Refuses LeaderOutOfRange))
-    (Refuses StationCount)
+    if one_to_sixteen n
+    then (if nat_lt leader n then Begins (record { pile = p; stations = n; leader = leader }) else Refuses LeaderOutOfRange)
+    else Refuses StationCount
 
 abbrev pub new_verdict : ℕ → ℕ → ℕ → Verdict
 new_verdict p n leader = start_verdict (pile_numbered p) n leader
@@ -42,7 +42,7 @@ item_verdict (command script.stop ops) = Asks (Stop (slice_index ops 0))
 
 -- a command asks first whether 48 listing bytes are free
 abbrev pub verdict : ℕ → Item → Verdict
-verdict room x = cond (nat_le 48 room) (item_verdict x) (Ends (Some ListingFull))
+verdict room x = if nat_le 48 room then item_verdict x else Ends (Some ListingFull)
 
 -- WHAT A COMMAND DOES
 
@@ -89,4 +89,4 @@ report (x ∷ xs) room st = reported (done (verdict room x) st) (1 + tail x) roo
 
 -- the length of the schedule is asked before any command
 abbrev pub run_of : List ℕ → ℕ → Report
-run_of bs room = cond (nat_le (length bs) 4096) (report (script bs) room no_trial) (record { lines = []; consumed = 0; ended = Some ScheduleTooLong })
+run_of bs room = if nat_le (length bs) 4096 then report (script bs) room no_trial else record { lines = []; consumed = 0; ended = Some ScheduleTooLong }

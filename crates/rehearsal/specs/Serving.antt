@@ -1,5 +1,5 @@
 -- The run as its code comes to it: the listing, the place in the schedule and what answers calls are carried along.
-use Rattle.std.specs.Prelude.{◌≡◌, ℕ, ◌+◌, ◌-◌, ◌<◌, ◌≤◌, cond, List, [], ◌∷◌, length, drop, None, Ok, Err, Option, Result, nat_lt}
+use Rattle.std.specs.Prelude.{◌≡◌, ℕ, ◌+◌, ◌-◌, ◌<◌, ◌≤◌, if◌then◌else◌, List, [], ◌∷◌, length, drop, None, Ok, Err, Option, Result, nat_lt}
 use Rattle.std.specs.declared.ops.ControlFlow.{ControlFlow}
 use Rattle.std.specs.declared.ops.ControlFlow.TheVariants.{Break, Continue}
 use Rattle.refusal.specs.declared.Refusal.{Refusal}
@@ -31,7 +31,7 @@ past (Asks c) p size = p + size
 
 -- the end of the schedule asks nothing
 abbrev pub judging : List ℕ → ℕ → ℕ → Verdict
-judging bs p room = cond (nat_lt p (length bs)) (verdict room (reading bs p)) (Ends None)
+judging bs p room = if nat_lt p (length bs) then verdict room (reading bs p) else Ends None
 
 abbrev pub Judges : List ℕ → ℕ → ℕ → Verdict → ℕ → Type 0
 Judges bs p room r q = (r ≡ judging bs p room) × (q ≡ past r p (1 + tail (reading bs p)))

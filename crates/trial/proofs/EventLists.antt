@@ -1,6 +1,6 @@
 -- One more event: what it adds to a list of events, and how a station's record goes along with it.
-use Rattle.std.proofs.Common.{◌≡◌, ℕ, ◌+◌, ◌≢◌, ◌⊎◌, ◌↔◌, List, [], ◌∷◌, ◌++◌, Some, None, Option, refl, inl, inr, ⊎_elim, arith, Ok, Err}
-use Rattle.std.proofs.lemmas.Bool.{eq-eqb, ne_eqb}
+use Rattle.std.proofs.Common.{◌≡◌, ℕ, ◌+◌, ◌≢◌, ◌⊎◌, ◌↔◌, List, [], ◌∷◌, ◌++◌, Some, Option, inl, inr, ⊎_elim, arith, Ok, Err}
+use Rattle.std.proofs.lemmas.Bool.Decides.{nat_tests}
 use Rattle.deciding.specs.declared.record.Outcome.{Outcome}
 use Rattle.deciding.specs.declared.record.Record.{Record}
 use Rattle.deciding.specs.declared.record.Record.TheVariants.{Away, UnderWay}
@@ -19,18 +19,15 @@ more past y = past ++ (y ∷ [])
 
 pub among_past : (e y : Event) (past : List Event) → Among e past → Among e (more past y)
 among_past e y [] h = absurd h
-among_past e y (x ∷ xs) (inl h) = inl h
-among_past e y (x ∷ xs) (inr h) = inr (among_past e y xs h)
+among_past e y (x ∷ xs) h = grind (arith, among_past e y xs)
 
 pub among_last : (e y : Event) (past : List Event) → e ≡ y → Among e (more past y)
 among_last e y [] h = inl h
 among_last e y (x ∷ xs) h = inr (among_last e y xs h)
 
 pub among_more : (e y : Event) (past : List Event) → Among e (more past y) → Among e past ⊎ (e ≡ y)
-among_more e y [] (inl h) = inr h
-among_more e y [] (inr h) = absurd h
-among_more e y (x ∷ xs) (inl h) = inl (inl h)
-among_more e y (x ∷ xs) (inr h) = ⊎_elim (λ a. inl (inr a)) inr (among_more e y xs h)
+among_more e y [] h = grind arith
+among_more e y (x ∷ xs) h = grind (arith, among_more e y xs)
 
 pub steps_more : (s : ℕ) (y : Event) (past : List Event) → steps s (more past y) ≡ steps s past + steps_in s y
 steps_more s y [] = omega arith
@@ -56,47 +53,22 @@ pub record Quiet (s : ℕ) (y : Event) : Type 0 where
   pub count : steps_in s y ≡ 0
 
 pub quiet_turns : (s : ℕ) (r : Record) (y : Event) → Quiet s y → Turns s r y r
-quiet_turns s r y q = record {
-  proposal = λ v. (inl, ⊎_elim (λ p. p) (λ e. absurd (q.no_enter v e)));
-  count = omega arith;
-  outcome = λ o. (inl, ⊎_elim (λ p. p) (λ e. absurd (q.no_step e.0 e.1 (Some o) e.2)));
-}
-
-apart : ◌≡◌ {A = ℕ} 0 1 → ⊥
-apart e = omega arith
+quiet_turns s r y q = grind (arith, q.no_enter, q.no_step)
 
 pub refused_quiet : (s : ℕ) (c : Call) (k : Refusal) → Quiet s (c gives Err k)
-refused_quiet s c k = record { no_enter = λ v e. apart (cc); no_step = λ d i o e. apart (cc); count = none c }
-  where
-    none : (c : Call) → steps_in s (c gives Err k) ≡ 0
-    none (enter t v) = refl
-    none (step t d) = refl
-    none (stop t) = refl
+refused_quiet s c k = grind arith
 
 pub stopped_quiet : (s t : ℕ) → Quiet s (stop t gives Ok stopped)
-stopped_quiet s t = record { no_enter = λ v e. apart (cc); no_step = λ d i o e. apart (cc); count = refl }
+stopped_quiet s t = grind arith
 
 pub entered_quiet : (s t v : ℕ) → s ≢ t → Quiet s (enter t v gives Ok entered)
-entered_quiet s t v h = record { no_enter = λ w e. h (cc); no_step = λ d i o e. apart (cc); count = refl }
+entered_quiet s t v h = grind arith
 
 pub stepped_quiet : (s t c : ℕ) (i : Operation) (o : Option Outcome) → s ≢ t → Quiet s (step t c gives Ok (stepped i o))
-stepped_quiet s t c i o h = record { no_enter = λ w e. apart (cc); no_step = λ d j q e. h (cc); count = rw (ne_eqb s t h) }
+stepped_quiet s t c i o h = grind (arith, nat_tests)
 
 pub entered_turns : (s v : ℕ) → Turns s Away (enter s v gives Ok entered) (UnderWay v 0)
-entered_turns s v = record {
-  proposal = λ w. (λ e. inr (cc), ⊎_elim absurd (λ e. cc));
-  count = omega arith;
-  outcome = λ o. (absurd, ⊎_elim (λ p. p) (λ e. apart (cc e.2)));
-}
+entered_turns s v = grind arith
 
 pub stepped_turns : (s c v k : ℕ) (i : Operation) (o : Option Outcome) → Turns s (UnderWay v k) (step s c gives Ok (stepped i o)) (record_after (UnderWay v k) o)
-stepped_turns s c v k i None = record {
-  proposal = λ w. (inl, ⊎_elim (λ p. p) (λ e. cc));
-  count = rw (eq-eqb s s refl);
-  outcome = λ o. (absurd, ⊎_elim (λ p. p) (λ e. apart (cc e.2)));
-}
-stepped_turns s c v k i (Some q) = record {
-  proposal = λ w. (inl, ⊎_elim (λ p. p) (λ e. cc));
-  count = rw (eq-eqb s s refl);
-  outcome = λ o. (λ e. inr (c, i, cc), ⊎_elim absurd (λ e. cc e.2));
-}
+stepped_turns s c v k i o = grind (arith, nat_tests)

@@ -1,10 +1,9 @@
 -- The law of runs: the trial of a deciding object goes along with the events, and so these obey the law.
-use Rattle.std.proofs.Common.{◌≡◌, ℕ, ◌<◌, ◌≤◌, Bool, true, false, cond, not, eqb, ltb, ◌≢◌, ◌⊎◌, List, [], ◌∷◌, ◌++◌, Some, None, Decides, Option, refl, ◌∙◌, inl, inr, ⊎_elim, append_assoc, append-nil, arith, Ok, Err}
+use Rattle.std.proofs.Common.{◌≡◌, ℕ, ◌<◌, ◌≤◌, Bool, true, false, if◌then◌else◌, not, eqb, ltb, ◌≢◌, ◌⊎◌, List, [], ◌∷◌, ◌++◌, Some, None, Decides, Option, refl, ◌∙◌, inl, inr, ⊎_elim, append_assoc, append-nil, arith, Ok, Err}
 use mathlib.Core.Bool.{false≢true}
-use Rattle.std.proofs.lemmas.Bool.{eq-eqb, ne_eqb, cases_eq}
-use Rattle.std.proofs.lemmas.Bool.Decides.{Decides-ltb, Decides-not, Decides-like, not_from_Decides}
+use Rattle.std.proofs.lemmas.Bool.{cases_eq}
+use Rattle.std.proofs.lemmas.Bool.Decides.{nat_tests, Decides-ltb, Decides-not, Decides-like}
 use Rattle.refusal.specs.declared.Refusal.{Refusal}
-use Rattle.refusal.specs.declared.Refusal.TheVariants.{NoSuchStation, Stopped as WasStopped, AlreadyEntered, NotEntered, AlreadyAnswered}
 use Rattle.deciding.specs.declared.record.Outcome.{Outcome}
 use Rattle.deciding.specs.declared.record.Outcome.TheVariants.{Commit}
 use Rattle.deciding.specs.declared.record.Record.{Record}
@@ -13,14 +12,13 @@ use Rattle.deciding.specs.declared.record.Operation.{Operation}
 use Rattle.deciding.specs.Laws.{Laws, mark, Proposes, Ends}
 use Rattle.deciding.specs.Machine.{Machine, Step, Enters, Steps, Beside}
 use Rattle.deciding.specs.Deciding.{Deciding}
-use Rattle.deciding.specs.Calls.{entry_by, step_by}
 use Rattle.trial.specs.declared.call.Call.{Call}
 use Rattle.trial.specs.declared.call.Call.TheVariants.{Enter as enter, Step as step, Stop as stop}
 use Rattle.trial.specs.Answers.{Answer}
 use Rattle.trial.specs.declared.call.Effect.TheVariants.{Entered as entered, Stepped as stepped, Stopped as stopped}
 use Rattle.trial.specs.Events.{Event, ◌gives◌, events_of, Among, Comes, Entered, Brought, Stopped}
 use Rattle.trial.specs.Law.{Question, is_station, not_stopped, not_entered, has_entered, no_outcome, refusal, questions, Yes, FirstNo, AllYes, Judged, steps_of, Shows, Lawful, InRange}
-use Rattle.trial.specs.Perform.{TrialState, begun, station_of, Small, AllSmall, Performed, entered_as, stepped_as, unless, perform, answers, last}
+use Rattle.trial.specs.Perform.{TrialState, begun, station_of, Small, AllSmall, Performed, unless, perform, answers, last}
 use Rattle.trial.proofs.EventLists.{more, among_past, among_last, among_more, Turns, shows_more, Quiet, quiet_turns, refused_quiet, stopped_quiet, entered_quiet, stepped_quiet, entered_turns, stepped_turns}
 
 apart : {P : Type 0} → ◌≡◌ {A = ℕ} 0 1 → P
@@ -40,7 +38,7 @@ answered (Answered v k o) = true
 
 abbrev first_no : (Question → Bool) → List Question → Option Refusal
 first_no holds [] = None
-first_no holds (q ∷ qs) = cond (holds q) (first_no holds qs) (Some (refusal q))
+first_no holds (q ∷ qs) = if holds q then first_no holds qs else Some (refusal q)
 
 -- calls that are put to a trial, each with its answer
 abbrev pub happened : (m : Machine) → TrialState m.State → List Call → List Event
@@ -59,52 +57,20 @@ module _ (m : Machine) where
   accepted x (step s c) =
       let r = m.step x.object s c in
       record { answer = Ok (stepped r.operation r.outcome); next = record { object = r.next; stopped = x.stopped } }
-  accepted x (stop s) = record { answer = Ok stopped; next = record { object = x.object; stopped = λ t. cond (eqb t s) true (x.stopped t) } }
+  accepted x (stop s) = record { answer = Ok stopped; next = record { object = x.object; stopped = λ t. if eqb t s then true else x.stopped t } }
 
   by_questions : (x : TrialState m.State) (c : Call) → perform m x c ≡ unless m x (first_no (says x (station_of c)) (questions c)) (accepted x c)
-  by_questions x (enter s v) = go (ltb s (m.stations x.object)) (x.stopped s) (m.record_of x.object s)
-    where
-      go : (a b : Bool) (k : Record) →
-          unless m x (cond a (cond b (Some WasStopped) None) (Some NoSuchStation))
-          (let e = entry_by m x.object s v a k in record { answer = entered_as e.answer; next = record { object = e.state; stopped = x.stopped } })
-          ≡ unless m x (cond a (cond (not b) (cond (not (came k)) None (Some AlreadyEntered)) (Some WasStopped)) (Some NoSuchStation)) (accepted x (enter s v))
-      go false b k = refl
-      go true true k = refl
-      go true false Away = refl
-      go true false (UnderWay w j) = refl
-      go true false (Answered w j o) = refl
-  by_questions x (step s c) = go (ltb s (m.stations x.object)) (x.stopped s) (m.record_of x.object s)
-    where
-      go : (a b : Bool) (k : Record) →
-          unless m x (cond a (cond b (Some WasStopped) None) (Some NoSuchStation))
-          (let e = step_by m x.object (m.step x.object s c) a k in record { answer = stepped_as e.answer; next = record { object = e.state; stopped = x.stopped } })
-          ≡ unless m x (cond a (cond (not b) (cond (came k) (cond (not (answered k)) None (Some AlreadyAnswered)) (Some NotEntered)) (Some WasStopped)) (Some NoSuchStation)) (accepted x (step s c))
-      go false b k = refl
-      go true true k = refl
-      go true false Away = refl
-      go true false (UnderWay w j) = refl
-      go true false (Answered w j o) = refl
-  by_questions x (stop s) = go (ltb s (m.stations x.object)) (x.stopped s)
-    where
-      go : (a b : Bool) →
-          unless m x (cond a (cond b (Some WasStopped) None) (Some NoSuchStation)) (accepted x (stop s))
-          ≡ unless m x (cond a (cond (not b) None (Some WasStopped)) (Some NoSuchStation)) (accepted x (stop s))
-      go false b = refl
-      go true true = refl
-      go true false = refl
+  by_questions x (enter s v) = grind (arith, nat_tests)
+  by_questions x (step s c) = grind (arith, nat_tests)
+  by_questions x (stop s) = grind (arith, nat_tests)
 
-data Verdict (holds : Question → Type 0) (qs : List Question) : Option Refusal → Type 0 where
-  passes : AllYes holds qs → Verdict holds qs None
-  fails : (k : Refusal) → FirstNo holds qs k → Verdict holds qs (Some k)
+abbrev Verdict : (Question → Type 0) → List Question → Option Refusal → Type 0
+Verdict holds qs None = AllYes holds qs
+Verdict holds qs (Some k) = FirstNo holds qs k
 
 verdict : (f : Question → Bool) (holds : Question → Type 0) → ((q : Question) → Decides (f q) (holds q)) → (qs : List Question) → Verdict holds qs (first_no f qs)
-verdict f holds agree [] = passes tt
-verdict f holds agree (q ∷ qs) = go (f q) (agree q) (first_no f qs) (verdict f holds agree qs)
-  where
-    go : (b : Bool) → Decides b (holds q) → (o : Option Refusal) → Verdict holds qs o → Verdict holds (q ∷ qs) (cond b o (Some (refusal q)))
-    go true h None (passes a) = passes (h.0 refl, a)
-    go true h (Some k) (fails j a) = fails k (inr (h.0 refl, a))
-    go false h o v = fails (refusal q) (inl (not_from_Decides false h refl, refl))
+verdict f holds agree [] = tt
+verdict f holds agree (q ∷ qs) = grind (arith, agree q, verdict f holds agree qs)
 
 -- what the record shows decides whether the station has entered, and whether it has its outcome
 came_shown : (s : ℕ) (past : List Event) (r : Record) → Shows s past r → Decides (came r) ((v : ℕ) × Entered s v past)
@@ -131,15 +97,11 @@ under_way_shown s past (Answered v k o) h e none = absurd (none o ((h.outcome o)
 among_comes : (e : Event) (events : List Event) → Among e events → (before : List Event) × (after : List Event) × (events ≡ before ++ (e ∷ after))
 among_comes e [] h = absurd h
 among_comes e (x ∷ xs) (inl h) = ([], xs, cc)
-among_comes e (x ∷ xs) (inr h) =
-    let (before, after, p) = among_comes e xs h in
-    (x ∷ before, after, cc)
+among_comes e (x ∷ xs) (inr h) = let (before, after, p) = among_comes e xs h in (x ∷ before, after, cc)
 
 -- what the bounds on steps say of a record
 within : (l : ℕ) (b : Bool) (g : ℕ → Record) → Laws l b g → (s : ℕ) (r : Record) → g s ≡ r → steps_of r ≤ l
-within l b g laws s Away e = omega arith
-within l b g laws s (UnderWay v k) e = omega (arith, laws.bounded s v k e)
-within l b g laws s (Answered v k o) e = (laws.bounded_end s v k o e).1
+within l b g laws s r e = grind (arith, laws.bounded s, laws.bounded_end s)
 
 going_or_ended : (l : ℕ) (b : Bool) (g : ℕ → Record) → Laws l b g → (s : ℕ) (r : Record) → g s ≡ r → (v : ℕ) → Proposes r v → (steps_of r < l) ⊎ ((o : Outcome) × Ends r o)
 going_or_ended l b g laws s Away e v h = absurd h
@@ -162,9 +124,7 @@ module _ (m : Machine) (d : Deciding m) (start : m.State) where
   agrees : (past : List Event) (x : TrialState m.State) → Followed past x → (s : ℕ) (q : Question) → Decides (says m x s q) (Yes (m.stations start) past s q)
   agrees past x f s is_station = rw f.stations (Decides-ltb s (m.stations start))
   agrees past x f s not_stopped = Decides-not (x.stopped s) (f.stops s)
-  agrees past x f s not_entered =
-      let r = m.record_of x.object s in
-      Decides-like (not (came r)) (λ none v e. none (v, e)) (λ none e. none e.0 e.1) (Decides-not (came r) (came_shown s past r (f.shows s)))
+  agrees past x f s not_entered = let shown = came_shown s past (m.record_of x.object s) (f.shows s) in grind arith
   agrees past x f s has_entered = came_shown s past (m.record_of x.object s) (f.shows s)
   agrees past x f s no_outcome =
       let r = m.record_of x.object s in
@@ -172,7 +132,7 @@ module _ (m : Machine) (d : Deciding m) (start : m.State) where
 
   -- no stop: the marks of the stopped stations stay
   stops_stay : (past : List Event) (y : Event) (t : ℕ) (b : Bool) → (stop t gives Ok stopped) ≢ y → Decides b (Stopped t past) → Decides b (Stopped t (more past y))
-  stops_stay past y t b h = Decides-like b (among_past _ y past) (λ a. ⊎_elim (λ p. p) (λ e. absurd (h e)) (among_more _ y past a))
+  stops_stay past y t b h = grind (arith, among_past (stop t gives Ok stopped) y past, among_more (stop t gives Ok stopped) y past)
 
   -- what is owed of the answer to a call
   record Follows (past : List Event) (c : Call) (p : Performed m) : Type 0 where
@@ -203,13 +163,12 @@ module _ (m : Machine) (d : Deciding m) (start : m.State) where
       limit = b.limit ∙ f.limit;
       registers = b.registers ∙ f.registers;
       ratifying = b.ratifying ∙ f.ratifying;
-      shows = λ t. shows t (cases_eq t s);
+      shows = λ t. elim (cases_eq t s) [
+        | inl e ↦ rw e (shows_more s past y (m.record_of x.object s) (m.record_of z s) turns (f.shows s))
+        | inr e ↦ let r = m.record_of x.object t in rw (b.others t e) (shows_more t past y r r (quiet_turns t r y (q t e)) (f.shows t))
+      ];
       stops = λ t. stops_stay past y t (x.stopped t) (h t) (f.stops t);
     }
-      where
-        shows : (t : ℕ) → (t ≡ s) ⊎ (t ≡ s → ⊥) → Shows t (more past y) (m.record_of z t)
-        shows t (inl e) = rw e (shows_more s past y (m.record_of x.object s) (m.record_of z s) turns (f.shows s))
-        shows t (inr e) = rw (b.others t e) (let r = m.record_of x.object t in shows_more t past y r r (quiet_turns t r y (q t e)) (f.shows t))
 
     accepts : (c : Call) → Small c → AllYes (Yes (m.stations start) past (station_of c)) (questions c) → Follows past c (accepted m x c)
     accepts (enter s v) small h = record {
@@ -238,19 +197,18 @@ module _ (m : Machine) (d : Deciding m) (start : m.State) where
     accepts (stop s) small h = record {
       judged = inr (h, refl);
       in_range = λ t k i o e. apart (cc);
-      next = unmoved (stop s gives Ok stopped) (λ t. stopped_quiet t s) (λ t. cond (eqb t s) true (x.stopped t)) (λ t. stops t (cases_eq t s));
+      next = unmoved (stop s gives Ok stopped) (λ t. stopped_quiet t s) (λ t. if eqb t s then true else x.stopped t) stops;
     }
       where
-        stops : (t : ℕ) → (t ≡ s) ⊎ (t ≡ s → ⊥) → Decides (cond (eqb t s) true (x.stopped t)) (Stopped t (more past (stop s gives Ok stopped)))
-        stops t (inl e) = rw (eq-eqb t s e) (λ _. among_last (stop t gives Ok stopped) (stop s gives Ok stopped) past (cc), λ _. refl)
-        stops t (inr e) = rw (ne_eqb t s e) (stops_stay past (stop s gives Ok stopped) t (x.stopped t) (λ q. e (cc)) (f.stops t))
+        stops : (t : ℕ) → Decides (if eqb t s then true else x.stopped t) (Stopped t (more past (stop s gives Ok stopped)))
+        stops t = grind (arith, nat_tests, among_last (stop t gives Ok stopped) (stop s gives Ok stopped) past, stops_stay past (stop s gives Ok stopped) t (x.stopped t), f.stops t)
 
     follows : (c : Call) → Small c → Follows past c (perform m x c)
     follows c small = rw (by_questions m x c) (go (first_no (says m x (station_of c)) (questions c)) (verdict (says m x (station_of c)) (Yes (m.stations start) past (station_of c)) (agrees past x f (station_of c)) (questions c)))
       where
         go : (o : Option Refusal) → Verdict (Yes (m.stations start) past (station_of c)) (questions c) o → Follows past c (unless m x o (accepted m x c))
-        go None (passes h) = accepts c small h
-        go (Some k) (fails j h) = record {
+        go None h = accepts c small h
+        go (Some k) h = record {
           judged = inl (k, refl, h);
           in_range = λ t n i o e. apart (cc);
           next = unmoved (c gives Err k) (λ t. refused_quiet t c k) x.stopped (λ t. stops_stay past (c gives Err k) t (x.stopped t) (λ e. apart (cc)) (f.stops t));

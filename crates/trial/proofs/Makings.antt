@@ -1,7 +1,6 @@
 -- The making of a trial: where its questions pass, the pile inside is made and all its records are away.
-use Rattle.std.proofs.Common.{◌≡◌, ℕ, Bool, true, false, cond, List, Some, None, Option, refl, arith}
+use Rattle.std.proofs.Common.{◌≡◌, ℕ, true, List, Some, None, Option, refl, arith}
 use Rattle.refusal.specs.declared.Refusal.{Refusal}
-use Rattle.refusal.specs.declared.Refusal.TheVariants.{StationCount, NotAllAway}
 use Rattle.deciding.specs.declared.record.Record.TheVariants.{Away}
 use Rattle.deciding.specs.Away.{all_away}
 use Rattle.deciding.specs.Sizes.{one_to_sixteen}
@@ -15,14 +14,6 @@ use Rattle.trial.specs.Perform.{AllSmall, trial_refusal}
 use Rattle.trial.specs.Trials.{LawfulTrial}
 use Rattle.trial.proofs.LawOfRuns.{lawful}
 
-clash : {A : Type 0} → ◌≡◌ {A = ℕ} 0 1 → A
-clash e = absurd (omega arith)
-
-both : (a b : Bool) → cond a (cond b None (Some NotAllAway)) (Some StationCount) ≡ None → (a ≡ true) × (b ≡ true)
-both true true h = (refl, refl)
-both true false h = clash (cc)
-both false b h = clash (cc)
-
 module _ (m : Machine) (d : Deciding m) (x : m.State) (reached : d.Reached x) where
   -- what the making leaves is reached, refused or not, and all its records are away
   pub trial_reached : (q : Option Refusal) → RefusableReached m d (with_refusal x q)
@@ -33,7 +24,8 @@ module _ (m : Machine) (d : Deciding m) (x : m.State) (reached : d.Reached x) wh
   trial_away (Some r) e s = refl
   trial_away None e s =
       let is : trial_refusal m x ≡ None = cc in
-      let (small, away) = both (one_to_sixteen (m.stations x)) (all_away (m.record_of x) 16) is in
+      let small : one_to_sixteen (m.stations x) ≡ true = grind arith in
+      let away : all_away (m.record_of x) 16 ≡ true = grind arith in
       all_are_away m d x reached small away s
 
   -- the law of runs, of every object that is reached

@@ -16,7 +16,7 @@ use Rattle.trial.proofs.Performing.{perform_reached}
 module _ (m : Machine) where
   answers_more : (x : TrialState m.State) (cs : List Call) (c : Call) → answers m x (cs ++ (c ∷ [])) ≡ answers m x cs ++ ((perform m (last m x cs) c).answer ∷ [])
   answers_more x [] c = refl
-  answers_more x (k ∷ ks) c = ap {B = List Answer} (λ r. (perform m x k).answer ∷ r) (answers_more (perform m x k).next ks c)
+  answers_more x (k ∷ ks) c = simp (answers_more (perform m x k).next ks c)
 
   last_more : (x : TrialState m.State) (cs : List Call) (c : Call) → last m x (cs ++ (c ∷ [])) ≡ (perform m (last m x cs) c).next
   last_more x [] c = refl
@@ -50,8 +50,8 @@ module _ (m : Machine) (d : Deciding m) where
         record {
           small = rw more (small_more (take i calls) k so.small p.small);
           reached = subst (λ (t : TrialState m.State). d.Reached t.object) (sym p.next) (perform_reached m d y so.reached k p.small);
-          answers = let one = answers_more m x (take i calls) k in let come = p.answer in let before = so.answers in let there = so.last in cc;
-          last = let one = last_more m x (take i calls) k in let come = p.next in let there = so.last in cc;
+          answers = cc (answers_more m x (take i calls) k);
+          last = cc (last_more m x (take i calls) k);
         }
 
   -- THE LAW, of a trial that begins with all records away and nobody stopped

@@ -1,5 +1,5 @@
 -- Calls with their answers, and what can be read off a list of them.
-use Rattle.std.specs.Prelude.{◌≡◌, ℕ, ◌+◌, cond, ◌⊎◌, List, [], ◌∷◌, ◌++◌, Some, ◌==◌, Ok, Err}
+use Rattle.std.specs.Prelude.{◌≡◌, ℕ, ◌+◌, if◌then◌else◌, ◌⊎◌, List, [], ◌∷◌, ◌++◌, Some, ◌==◌, Ok, Err}
 use Rattle.deciding.specs.declared.record.Outcome.{Outcome}
 use Rattle.deciding.specs.declared.record.Operation.{Operation}
 use Rattle.trial.specs.declared.call.Call.{Call}
@@ -42,7 +42,7 @@ abbrev pub steps_in : ℕ → Event → ℕ
 steps_in s (enter t v gives a) = 0
 steps_in s (step t c gives Err q) = 0
 steps_in s (step t c gives Ok entered) = 0
-steps_in s (step t c gives Ok (stepped i o)) = cond (s == t) 1 0
+steps_in s (step t c gives Ok (stepped i o)) = if s == t then 1 else 0
 steps_in s (step t c gives Ok stopped) = 0
 steps_in s (stop t gives a) = 0
 

@@ -1,5 +1,5 @@
 -- What a trial does with a call: its own two questions first, then the call goes to the object, which asks its own.
-use Rattle.std.specs.Prelude.{◌≡◌, ℕ, ◌<◌, Bool, true, false, cond, List, [], ◌∷◌, Some, None, Ok, Err, Option, Result, ◌==◌, nat_lt}
+use Rattle.std.specs.Prelude.{◌≡◌, ℕ, ◌<◌, Bool, true, false, if◌then◌else◌, List, [], ◌∷◌, Some, None, Ok, Err, Option, Result, ◌==◌, nat_lt}
 use Rattle.refusal.specs.declared.Refusal.{Refusal}
 use Rattle.refusal.specs.declared.Refusal.TheVariants.{NoSuchStation, StationCount, NotAllAway, Stopped as WasStopped}
 use Rattle.deciding.specs.declared.record.Operation.{Operation}
@@ -53,12 +53,12 @@ stopped_as (Err e) = Err e
 
 -- The making of a trial asks whether the pile has 1 to 16 stations, and whether all their records are away.
 abbrev pub trial_refusal : (m : Machine) → m.State → Option Refusal
-trial_refusal m x = cond (one_to_sixteen (m.stations x)) (cond (all_away (m.record_of x) 16) None (Some NotAllAway)) (Some StationCount)
+trial_refusal m x = if one_to_sixteen (m.stations x) then (if all_away (m.record_of x) 16 then None else Some NotAllAway) else Some StationCount
 
 module _ (m : Machine) where
   -- is there such a station, and is it not stopped?
   abbrev pub admission : TrialState m.State → ℕ → Option Refusal
-  admission x s = cond (nat_lt s (m.stations x.object)) (cond (x.stopped s) (Some WasStopped) None) (Some NoSuchStation)
+  admission x s = if nat_lt s (m.stations x.object) then (if x.stopped s then Some WasStopped else None) else Some NoSuchStation
 
   pub record Performed : Type 0 where
     pub answer : Answer
@@ -72,7 +72,7 @@ module _ (m : Machine) where
   admitted x (Step s c) =
       let e = stepping m x.object s c in
       record { answer = stepped_as e.answer; next = record { object = e.state; stopped = x.stopped } }
-  admitted x (Stop s) = record { answer = Ok Stopped; next = record { object = x.object; stopped = λ t. cond (t == s) true (x.stopped t) } }
+  admitted x (Stop s) = record { answer = Ok Stopped; next = record { object = x.object; stopped = λ t. if t == s then true else x.stopped t } }
 
   -- a refused call leaves the trial as it is
   abbrev pub unless : TrialState m.State → Option Refusal → Performed → Performed
