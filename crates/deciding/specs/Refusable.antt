@@ -88,44 +88,44 @@ module _ (m : Machine) (d : Deciding m) where
   nobody below = absurd (omega (arith, below))
 
   module _ (s v : ℕ) where
-    abbrev pub Enter : Refusable m.State → Type 0
-    Enter x = Enters (refusable m) x s v
+    abbrev pub MayEnter : Refusable m.State → Type 0
+    MayEnter x = Enters (refusable m) x s v
 
-    enters : (x : m.State) → Enter (Ok x) → Enters m x s v
+    enters : (x : m.State) → MayEnter (Ok x) → Enters m x s v
     enters x e = record { below = e.below; away = e.away; small = e.small }
 
-    pub enter_reached : (x : Refusable m.State) → RefusableReached x → Enter x → RefusableReached (enter_made m x s v)
+    pub enter_reached : (x : Refusable m.State) → RefusableReached x → MayEnter x → RefusableReached (enter_made m x s v)
     enter_reached (Ok x) r e = d.enter_reached x s v r (enters x e)
     enter_reached (Err q) r e = tt
 
-    pub enter_beside : (x : Refusable m.State) → RefusableReached x → Enter x → Beside (refusable m) s x (enter_made m x s v)
+    pub enter_beside : (x : Refusable m.State) → RefusableReached x → MayEnter x → Beside (refusable m) s x (enter_made m x s v)
     enter_beside (Ok x) r e = beside_made (d.enter_beside x s v r (enters x e))
     enter_beside (Err q) r e = nobody e.below
 
-    pub enter_own : (x : Refusable m.State) → RefusableReached x → Enter x → (refusable m).record_of (enter_made m x s v) s ≡ UnderWay v 0
+    pub enter_own : (x : Refusable m.State) → RefusableReached x → MayEnter x → (refusable m).record_of (enter_made m x s v) s ≡ UnderWay v 0
     enter_own (Ok x) r e = d.enter_own x s v r (enters x e)
     enter_own (Err q) r e = nobody e.below
 
   module _ (s c v k : ℕ) where
-    abbrev pub Stepping : Refusable m.State → Type 0
-    Stepping x = Steps (refusable m) x s v k
+    abbrev pub MayStep : Refusable m.State → Type 0
+    MayStep x = Steps (refusable m) x s v k
 
-    steps : (x : m.State) → Stepping (Ok x) → Steps m x s v k
+    steps : (x : m.State) → MayStep (Ok x) → Steps m x s v k
     steps x e = record { below = e.below; under_way = e.under_way }
 
-    pub step_reached : (x : Refusable m.State) → RefusableReached x → Stepping x → RefusableReached (step_made m x s c).next
+    pub step_reached : (x : Refusable m.State) → RefusableReached x → MayStep x → RefusableReached (step_made m x s c).next
     step_reached (Ok x) r e = d.step_reached x s c v k r (steps x e)
     step_reached (Err q) r e = tt
 
-    pub step_beside : (x : Refusable m.State) → RefusableReached x → Stepping x → Beside (refusable m) s x (step_made m x s c).next
+    pub step_beside : (x : Refusable m.State) → RefusableReached x → MayStep x → Beside (refusable m) s x (step_made m x s c).next
     step_beside (Ok x) r e = beside_made (d.step_beside x s c v k r (steps x e))
     step_beside (Err q) r e = nobody e.below
 
-    pub step_own : (x : Refusable m.State) → RefusableReached x → Stepping x → (refusable m).record_of (step_made m x s c).next s ≡ stepped (UnderWay v k) (step_made m x s c).outcome
+    pub step_own : (x : Refusable m.State) → RefusableReached x → MayStep x → (refusable m).record_of (step_made m x s c).next s ≡ stepped (UnderWay v k) (step_made m x s c).outcome
     step_own (Ok x) r e = d.step_own x s c v k r (steps x e)
     step_own (Err q) r e = nobody e.below
 
-    pub step_below : (x : Refusable m.State) → RefusableReached x → Stepping x → (step_made m x s c).operation.register < (refusable m).registers x
+    pub step_below : (x : Refusable m.State) → RefusableReached x → MayStep x → (step_made m x s c).operation.register < (refusable m).registers x
     step_below (Ok x) r e = d.step_below x s c v k r (steps x e)
     step_below (Err q) r e = nobody e.below
 

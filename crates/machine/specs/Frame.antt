@@ -65,7 +65,7 @@ module _ {Setup Phase : Type 0} (p : Protocol Setup Phase) {Meets : Phase → �
         inv = inv;
       }
 
-  enter_good : (x : Running' Setup Phase) (s v : ℕ) → Good p kept x → Enters (machine_of p) x s v → Good p kept ((machine_of p).enter x s v)
+  pub enter_good : (x : Running' Setup Phase) (s v : ℕ) → Good p kept x → Enters (machine_of p) x s v → Good p kept ((machine_of p).enter x s v)
   enter_good x s v good e =
       after_good x s x.contents (Running v 0 p.begun) good e.below refl
       (kept.enter_kept _ _ _ s v good.fitting good.inv e.below e.small (grind (arith, e.away)))
@@ -79,7 +79,7 @@ module _ {Setup Phase : Type 0} (p : Protocol Setup Phase) {Meets : Phase → �
     step_beside = by_phase (λ r. Beside (machine_of p) s x r.next) (λ ph is. after_beside x s _ _)
 
     module _ (good : Good p kept x) where
-      step_good : Good p kept ((machine_of p).step x s c).next
+      pub step_good : Good p kept ((machine_of p).step x s c).next
       step_good = by_phase (λ r. Good p kept r.next) (λ ph is.
           after_good x s _ _ good e.below (grind (arith, length-set)) (kept.step_kept _ _ _ s c v k ph good.fitting good.inv e.below is))
 
@@ -133,7 +133,7 @@ pub empties : (xs : List ℕ) (k : ℕ) → Decides (empty_below xs k) ((i : ℕ
 empties xs k = Decides-below_and (λ i. slice_index xs i == 0) (λ i. (slice_index xs i == 0) ≡ true) (empty_below xs) (λ i. (λ e. e, λ e. e)) refl (λ _. refl) k
 
 module _ {Setup Phase : Type 0} (p : Protocol Setup Phase) {Meets : Phase → ℕ → Type 0} (kept : Kept p Meets) (u : Setup) (xs : List ℕ) where
-  fresh_good : refusal_of p u xs ≡ None → Good p kept (fresh p u xs)
+  pub fresh_good : refusal_of p u xs ≡ None → Good p kept (fresh p u xs)
   fresh_good none =
       let few : one_to_sixteen (p.stations u) ≡ true = grind arith in
       let empty : empty_below xs (p.registers u) ≡ true = grind arith in
