@@ -2,7 +2,7 @@
 
 ghost use Rattle.std.specs.Prelude.{◌≡◌, ℕ, ◌+◌, ◌-◌, ◌≤◌, length, nat_le};
 ghost use Rattle.listing.specs.Over.{Extends};
-ghost use Rattle.listing.specs.Puts.{Appends, Stands};
+ghost use Rattle.listing.specs.Puts.{Appends, Puts, Stands};
 ghost use Rattle.listing.specs.Words.{line_of, spelled};
 
 use deciding::record::{Operation, Outcome};
@@ -16,6 +16,16 @@ mod word;
 
 // How many bytes have to be free for a line to be put. No line is longer.
 pub const ROOM: usize = 48;
+
+// Puts one line, and answers where it ends: for callers that keep their bytes in a struct of their own. What is put through a
+// `Listing` that such a struct lends its bytes to is lost to a proof.
+pub fn put(listing: &mut [u8], at: usize, line: Line) -> Result<usize, Refusal>
+    ensures { Puts listing.old at line result listing.new }
+{
+    let mut listing = Listing::new(listing, at);
+    listing.put(line)?;
+    Ok(listing.end())
+}
 
 // A listing as it is written: the caller's bytes, and where the next line goes.
 #[derive(Drop)]
