@@ -1,5 +1,5 @@
 -- A call of a station that is one, by what its row is.
-use Rattle.std.proofs.Common.{◌≡◌, ℕ, ◌<◌, true, ◌&&◌, ltb, List, length, get_or, set, Ok, Option, refl, ap, ◌∙◌, subst, sym, arith}
+use Rattle.std.proofs.Common.{◌≡◌, ℕ, ◌<◌, true, ◌&&◌, ltb, List, length, get_or, set, Ok, Option, ap, ◌∙◌, arith}
 use Rattle.std.proofs.Math.Logic.{∥∥₁_elim}
 use Rattle.std.proofs.Props.{props}
 use Rattle.std.proofs.lemmas.Bool.{ltb-true, and_parts}
@@ -8,11 +8,11 @@ use Rattle.std.specs.Coded.{le_prop, ×_prop}
 use Rattle.deciding.specs.declared.record.Operation.{Operation}
 use Rattle.deciding.specs.declared.record.Outcome.{Outcome}
 use Rattle.deciding.specs.Laws.{marks}
-use Rattle.deciding.specs.Calls.{entry, Entering, stepping, Stepping, entering_keeps, stepping_keeps}
+use Rattle.deciding.specs.Calls.{Entering, Stepping, entering_keeps, stepping_keeps}
 use Rattle.machine.specs.declared.status.Status.{Status}
 use Rattle.machine.specs.declared.status.Status.TheVariants.{Absent, Running}
 use Rattle.machine.specs.declared.status.Plan.{Plan}
-use Rattle.machine.specs.Protocol.{Protocol, Running', shown, running, register_of, content_of, contents_after, operation_of, outcome_of, status_after, step_from, machine_of}
+use Rattle.machine.specs.Protocol.{Protocol, Running', shown, running, register_of, content_of, contents_after, operation_of, outcome_of, status_after, machine_of}
 use Rattle.machine.specs.Kept.{Kept}
 use Rattle.machine.specs.Rows.{Advances}
 use Rattle.machine.specs.Frame.{Good, running_deciding, running_good}
@@ -28,14 +28,10 @@ module _ {Setup Phase : Type 0} (p : Protocol Setup Phase) {Meets : Phase → �
   below : s < p.stations x.setup
   below = ltb-true s (p.stations x.setup) seat
 
-  entry_new : (v : ℕ) → get_or x.table s Absent ≡ Absent → entry (machine_of p) x s v ≡ record { answer = Ok tt; state = (machine_of p).enter x s v }
-  entry_new v away = rw (seat, away) refl
-
   pub enter_new : (v : ℕ) → v < marks → get_or x.table s Absent ≡ Absent → (i : ℕ) (begun : Phase) → i ≡ s → begun ≡ p.begun →
       let y = running x.setup x.contents (set x.table i (Running v 0 begun)) in Entering (machine_of p) x s v (Ok tt) y × (running_deciding p kept).Reached y
   enter_new v small away i begun here new =
-      let is = entry_new v away in
-      entering_keeps (machine_of p) (running_deciding p kept) x s reached v _ _ small (cc, cc)
+      entering_keeps (machine_of p) (running_deciding p kept) x s reached v _ _ small (grind (arith, seat, away), grind (arith, seat, away))
 
   -- a station that is under way
   module _ (c v k : ℕ) (ph : Phase) (is : get_or x.table s Absent ≡ Running v k ph) where
@@ -55,19 +51,14 @@ module _ {Setup Phase : Type 0} (p : Protocol Setup Phase) {Meets : Phase → �
     lent_is : (i : ℕ) (d : Status Phase) → i ≡ s → get_or x.table i d ≡ Running v k ph
     lent_is i d same = get_or_default x.table i d Absent (omega (arith, in_table)) ∙ cc
 
-    stepping_on : stepping (machine_of p) x s c ≡ (let n = step_from p x s c v k ph in record { answer = Ok (n.operation, n.outcome); state = n.next })
-    stepping_on = rw (seat, is) refl
-
     pub steps_on : IsSet Phase → (plan : Plan) (op : Operation) (ys : List ℕ) (i : ℕ) (d : Status Phase) (outcome : Option Outcome) (row : Status Phase) → plan ≡ p.plan x.setup s v ph →
         op ≡ operation_of x.contents plan → ys ≡ contents_after x.contents plan →
         i ≡ s → Advances p Meets x.setup s op.content c (get_or x.table i d) outcome row →
         let y = running x.setup ys (set x.table i row) in Stepping (machine_of p) x s c (Ok (op, outcome)) y × (running_deciding p kept).Reached y
     steps_on phases plan op ys i d outcome row planned oped left same advanced =
-        let advances = subst (λ (r : Status Phase). Advances p Meets x.setup s op.content c r outcome row) (lent_is i d same) advanced in
+        let advances = rw (lent_is i d same) at advanced in
         let content : op.content ≡ content_of x.contents (p.plan x.setup s v ph) = grind arith in
         let turn = p.turn x.setup s v ph op.content c in
         let (out, row_is) = ∥∥₁_elim {P = (outcome ≡ outcome_of turn) × (row ≡ status_after v k turn)} merely (×_prop (hlevel props) (hlevel (props, phases))) (λ good.
-        let met = kept.meets x.setup x.contents x.table s v k ph good.inv below is in
-        advances below (subst (Meets ph) (sym content) met) steps_few) in
-        let step = stepping_on in
-        stepping_keeps (machine_of p) (running_deciding p kept) x s reached c _ _ (cc, cc)
+        advances below (rw content (kept.meets _ _ _ s v k ph good.inv below is)) steps_few) in
+        stepping_keeps (machine_of p) (running_deciding p kept) x s reached c _ _ (grind (arith, seat, is), grind (arith, seat, is))

@@ -9,13 +9,13 @@ use Rattle.std.proofs.lemmas.Bool.{cases_lt}
 use Rattle.std.proofs.lemmas.Bool.Decides.{Decides-below_and, nat_tests}
 use Rattle.deciding.specs.declared.record.Record.TheVariants.{Away, UnderWay}
 use Rattle.deciding.specs.Laws.{stepped, record_prop, laws_found}
-use Rattle.deciding.specs.Machine.{Step, Beside, Enters, Steps}
+use Rattle.deciding.specs.Machine.{Beside, Enters, Steps}
 use Rattle.deciding.specs.Sizes.{one_to_sixteen, sizes_prop}
 use Rattle.deciding.specs.Deciding.{Deciding}
 use Rattle.deciding.specs.Refusable.{refusable, refusable_deciding}
 use Rattle.machine.specs.declared.status.Status.{Status}
 use Rattle.machine.specs.declared.status.Status.TheVariants.{Absent, Running, Done}
-use Rattle.machine.specs.Protocol.{Protocol, Running', running, shown, step_from, machine_of}
+use Rattle.machine.specs.Protocol.{Protocol, Running', running, shown, machine_of}
 use Rattle.machine.specs.Kept.{rows, Fitting, Kept}
 use Rattle.machine.specs.Making.{empty_below, refusal_of, fresh, made}
 
@@ -71,25 +71,21 @@ module _ {Setup Phase : Type 0} (p : Protocol Setup Phase) {Meets : Phase → �
       (kept.enter_kept _ _ _ s v good.fitting good.inv e.below e.small (grind (arith, e.away)))
 
   module _ (x : Running' Setup Phase) (s c v k : ℕ) (e : Steps (machine_of p) x s v k) where
-    -- what holds of the step as its phase has it holds of the step
-    by_phase : (P : Step (Running' Setup Phase) → Type 0) → ((ph : Phase) → slice_index_or x.table s Absent ≡ Running v k ph → P (step_from p x s c v k ph)) → P ((machine_of p).step x s c)
-    by_phase P here = let (ph, is) = row_running (slice_index_or x.table s Absent) v k e.under_way in rw is (here ph is)
+    under_way : (ph : Phase) × (slice_index_or x.table s Absent ≡ Running v k ph)
+    under_way = row_running (slice_index_or x.table s Absent) v k e.under_way
 
     step_beside : Beside (machine_of p) s x ((machine_of p).step x s c).next
-    step_beside = by_phase (λ r. Beside (machine_of p) s x r.next) (λ ph is. after_beside x s _ _)
+    step_beside = rw under_way.1 (after_beside x s _ _)
 
     module _ (good : Good p kept x) where
       pub step_good : Good p kept ((machine_of p).step x s c).next
-      step_good = by_phase (λ r. Good p kept r.next) (λ ph is.
-          after_good x s _ _ good e.below (grind (arith, length-set)) (kept.step_kept _ _ _ s c v k ph good.fitting good.inv e.below is))
+      step_good = rw under_way.1 (after_good x s _ _ good e.below (grind (arith, length-set)) (kept.step_kept _ _ _ s c v k under_way.0 good.fitting good.inv e.below under_way.1))
 
       step_own : (machine_of p).record_of ((machine_of p).step x s c).next s ≡ stepped (UnderWay v k) ((machine_of p).step x s c).outcome
-      step_own = by_phase (λ r. (machine_of p).record_of r.next s ≡ stepped (UnderWay v k) r.outcome) (λ ph is.
-          after_own x s x.contents _ good e.below ∙ grind arith)
+      step_own = rw under_way.1 (after_own x s x.contents _ good e.below ∙ grind arith)
 
       step_below : ((machine_of p).step x s c).operation.register < p.registers x.setup
-      step_below = by_phase (λ r. r.operation.register < p.registers x.setup) (λ ph is.
-          grind (arith, kept.below _ _ _ s v k ph good.inv e.below is))
+      step_below = rw under_way.1 (grind (arith, kept.below _ _ _ s v k under_way.0 good.inv e.below under_way.1))
 
   none_away : (x : Running' Setup Phase) (s : ℕ) → ∥ Good p kept x ∥₁ → p.stations x.setup ≤ s → (machine_of p).record_of x s ≡ Away
   none_away x s merely past = ∥∥₁_elim merely (record_prop _ _) (λ good. ap shown (good.past s past))

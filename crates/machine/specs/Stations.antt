@@ -1,6 +1,6 @@
 -- What the invariant of a protocol says of each station's row, and the laws that follow from that alone.
 use Rattle.std.specs.Prelude.{◌≡◌, ℕ, ◌<◌, ◌≤◌, Bool, true, false, List, length, slice_index_or, slice_set}
-use Rattle.std.proofs.Common.{inl, inr, arith}
+use Rattle.std.proofs.Common.{arith}
 use Rattle.std.proofs.lemmas.List.{get_or-set_same, get_or-set_other}
 use Rattle.std.proofs.lemmas.Bool.{cases_eq}
 use Rattle.deciding.specs.declared.record.Outcome.{Outcome}
@@ -24,10 +24,8 @@ module _ {Phase : Type 0} where
   -- proposals remain when a row is set, if that of the row does
   pub proposed_set : (t : List (Status Phase)) (s : ℕ) (row : Status Phase) → s < length t →
       ((v : ℕ) → Proposes (shown (slice_index_or t s Absent)) v → Proposes (shown row) v) → (v : ℕ) → Proposed t v → Proposed (slice_set t s row) v
-  proposed_set t s row there same v (j, proposes) = elim (cases_eq j s) [
-    | inl e ↦ (s, rw (get_or-set_same t s row Absent there) (same v (rw e at proposes)))
-    | inr e ↦ (j, rw (get_or-set_other t s j row Absent e) proposes)
-  ]
+  proposed_set t s row there same v (j, proposes) =
+      (j, grind (arith, cases_eq j s, get_or-set_same t s row Absent there, get_or-set_other t s j row Absent, same v, proposes))
 
   pub proposed_own : (t : List (Status Phase)) (s : ℕ) (row : Status Phase) (v : ℕ) → s < length t → Proposes (shown row) v → Proposed (slice_set t s row) v
   proposed_own t s row v there proposes = (s, rw (get_or-set_same t s row Absent there) proposes)

@@ -1,5 +1,4 @@
-use Rattle.std.proofs.Common.{sym, ap, arith}
-use Rattle.machine.specs.Protocol.{register_of}
+use Rattle.std.proofs.Common.{sym, arith}
 use Rattle.machine.proofs.Seats.{register_there, steps_on}
 use Rattle.machine.proofs.machine.StepMachineDecidingObject.step.Goals as goal
 use base.Stored.{Coded-set}
@@ -8,8 +7,7 @@ use base.Stored.{Coded-set}
 pub returns-in_err-operation-in-Running : goal.returns-in_err-operation-in-Running
 returns-in_err-operation-in-Running g c =
     let there = register_there g.P.Protocol.rules g.P.Protocol.kept _ c.args.self.now.reached c.args.station (sym c.if-not-has.ensures) c.args.coin _ _ _ (sym c.in-Running.ensures) in
-    let planned = ap register_of c.plan-plan.ensures in
-    absurd (omega (arith, there, planned, c.in_err-operation-in-Running.ensures))
+    absurd (grind (arith, there, c.plan-plan.ensures, c.in_err-operation-in-Running.ensures))
 
 pub invariant_of-self-in-Running-clause-reached : goal.invariant_of-self-in-Running-clause-reached
 invariant_of-self-in-Running-clause-reached g c =
