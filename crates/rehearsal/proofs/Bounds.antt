@@ -1,7 +1,6 @@
 -- What a run consumes lies within the schedule, and what ends it, if not the end of the schedule, is one of the first four
 -- questions.
-use Rattle.std.proofs.Common.{ℕ, zero, suc, ◌+◌, ◌-◌, ◌≤◌, leb, List, [], ◌∷◌, length, Result, arith}
-use Rattle.std.proofs.lemmas.Bool.{cond_both}
+use Rattle.std.proofs.Common.{ℕ, zero, suc, ◌+◌, ◌-◌, ◌≤◌, List, [], ◌∷◌, length, Result, arith}
 use Rattle.std.proofs.lemmas.Bool.Decides.{nat_tests}
 use Rattle.refusal.specs.declared.Refusal.{Refusal}
 use Rattle.refusal.specs.Numbers.{number_of, number_or_zero}
@@ -9,7 +8,7 @@ use Rattle.schedule.specs.declared.pile.Pile.{Pile}
 use Rattle.schedule.specs.Script.{Item, command, broken, operands, item, tail, items}
 use Rattle.rehearsal.specs.declared.verdict.Verdict.{Verdict}
 use Rattle.rehearsal.specs.declared.verdict.Verdict.TheVariants.{Ends, Halts, Refuses, Begins, Asks}
-use Rattle.rehearsal.specs.Responders.{Responder, no_trial}
+use Rattle.rehearsal.specs.Responders.{Responder}
 use Rattle.rehearsal.specs.Runs.{start_verdict, item_verdict, verdict, done, Report, reported, report, run_of}
 
 -- AN ITEM: its operands are there, and what breaks it is one of the first four questions
@@ -49,21 +48,15 @@ done_bounded : (v : Verdict) (st : Responder) (n size room : ℕ) (rest : ℕ �
     Bounded (n + size) (reported (done v st) n room rest)
 done_bounded v st n size room rest e h = grind (arith, h)
 
-resized : (a b : ℕ) (r : Report) → a ≤ b → Bounded a r → Bounded b r
-resized a b r h k = grind arith
-
 items_bounded : (n : ℕ) (bs : List ℕ) → n ≤ length bs → (room : ℕ) (st : Responder) → Bounded (length bs - n) (report (items n bs) room st)
 items_bounded n [] h room st = record { consumed = omega arith; ended = omega arith }
 items_bounded zero (b ∷ bs) h room st =
     let x = item b bs in
     let fine = item_fine b bs in
     let within = tail_within x (length bs) fine in
-    resized (1 + tail x + (length bs - tail x)) (length (b ∷ bs) - 0) _ (omega arith)
-    (done_bounded (verdict room x) st (1 + tail x) (length bs - tail x) room (report (items (tail x) bs)) (early room x (length bs) fine) (items_bounded (tail x) bs within))
-items_bounded (suc n) (b ∷ bs) h room st = resized (length bs - n) (length (b ∷ bs) - suc n) _ (omega arith) (items_bounded n bs (omega arith) room st)
+    let here = done_bounded (verdict room x) st (1 + tail x) (length bs - tail x) room (report (items (tail x) bs)) (early room x (length bs) fine) (items_bounded (tail x) bs within) in
+    record { consumed = omega (arith, here.consumed); ended = here.ended }
+items_bounded (suc n) (b ∷ bs) h room st = let rest = items_bounded n bs (omega arith) room st in record { consumed = omega (arith, rest.consumed); ended = rest.ended }
 
 pub run_bounded : (bs : List ℕ) (room : ℕ) → Bounded (length bs) (run_of bs room)
-run_bounded bs room =
-    cond_both (leb (length bs) 4096) _ _ (λ (r : Report). Bounded (length bs) r)
-    (λ _. resized (length bs - 0) (length bs) _ (omega arith) (items_bounded 0 bs (omega arith) room no_trial))
-    (λ _. record { consumed = omega arith; ended = omega arith })
+run_bounded bs room = grind (arith, items_bounded 0 bs)

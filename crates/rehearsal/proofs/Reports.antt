@@ -1,5 +1,5 @@
 -- How a run ends, by its report.
-use Rattle.std.proofs.Common.{◌≡◌, ℕ, ◌+◌, ◌-◌, ◌≤◌, List, [], ◌∷◌, ◌++◌, length, drop, Some, Option, sym, refl, ap, ◌∙◌, arith, length-append}
+use Rattle.std.proofs.Common.{◌≡◌, ℕ, ◌+◌, ◌-◌, ◌≤◌, List, [], ◌∷◌, ◌++◌, length, drop, Option, sym, refl, ap, ◌∙◌, arith, length-append}
 use Rattle.std.proofs.lemmas.Bool.{le-leb}
 use Rattle.refusal.specs.declared.Refusal.{Refusal}
 use Rattle.listing.specs.declared.line.Line.{Line}
@@ -8,7 +8,6 @@ use Rattle.listing.specs.Lines.{text}
 use Rattle.listing.proofs.Overs.{over_none, over_append, length-over_any, over_start}
 use Rattle.schedule.specs.Script.{Item, script, tail}
 use Rattle.rehearsal.specs.declared.verdict.Verdict.{Verdict}
-use Rattle.rehearsal.specs.declared.verdict.Verdict.TheVariants.{Ends, Halts, Refuses, Begins, Asks}
 use Rattle.rehearsal.specs.Lines.{listed}
 use Rattle.rehearsal.specs.Responders.{Responder, no_trial}
 use Rattle.rehearsal.specs.Runs.{verdict, over_with, on_with, done, Report, reported, report, run_of}
@@ -50,11 +49,7 @@ module _ (xs : List Item) (more : (p : ℕ) (bytes : List ℕ) (w : ℕ) (st : R
   ended ls q = same refl (omega arith) refl refl
 
   step : (v : Verdict) (st : Responder) → went (done v st) (past v p n) bytes w (finish xs) ≡ final p bytes w (reported (done v st) n (length bytes - w) (report xs))
-  step (Ends q) st = ended _ q
-  step (Halts q) st = ended _ (Some q)
-  step (Refuses q) st = goes _ st
-  step (Begins u) st = goes _ _
-  step (Asks c) st = goes _ _
+  step v st = grind (arith, goes, ended)
 
 finishes : (xs : List Item) (p : ℕ) (bytes : List ℕ) (w : ℕ) (st : Responder) → w ≤ length bytes → finish xs p bytes w st ≡ final p bytes w (report xs (length bytes - w) st)
 unfolding final

@@ -60,9 +60,7 @@ module _ (m : Machine) where
   accepted x (stop s) = record { answer = Ok stopped; next = record { object = x.object; stopped = λ t. if eqb t s then true else x.stopped t } }
 
   by_questions : (x : TrialState m.State) (c : Call) → perform m x c ≡ unless m x (first_no (says x (station_of c)) (questions c)) (accepted x c)
-  by_questions x (enter s v) = grind (arith, nat_tests)
-  by_questions x (step s c) = grind (arith, nat_tests)
-  by_questions x (stop s) = grind (arith, nat_tests)
+  by_questions x c = grind (arith, nat_tests)
 
 abbrev Verdict : (Question → Type 0) → List Question → Option Refusal → Type 0
 Verdict holds qs None = AllYes holds qs

@@ -1,12 +1,11 @@
 -- A call leads from a reached state to a reached state.
-use Rattle.std.proofs.Common.{Some, None, Option, refl}
-use Rattle.refusal.specs.declared.Refusal.{Refusal}
+use Rattle.std.proofs.Common.{refl, arith}
 use Rattle.deciding.specs.Machine.{Machine}
 use Rattle.deciding.specs.Deciding.{Deciding}
 use Rattle.deciding.specs.Calls.{entering_keeps, stepping_keeps}
 use Rattle.trial.specs.declared.call.Call.{Call}
 use Rattle.trial.specs.declared.call.Call.TheVariants.{Enter, Step, Stop}
-use Rattle.trial.specs.Perform.{TrialState, Small, station_of, admission, admitted, unless, perform}
+use Rattle.trial.specs.Perform.{TrialState, Small, admitted, perform}
 
 module _ (m : Machine) (d : Deciding m) (x : TrialState m.State) (reached : d.Reached x.object) where
   admitted_reached : (c : Call) → Small c → d.Reached (admitted m x c).next.object
@@ -15,8 +14,4 @@ module _ (m : Machine) (d : Deciding m) (x : TrialState m.State) (reached : d.Re
   admitted_reached (Stop s) small = reached
 
   pub perform_reached : (c : Call) → Small c → d.Reached (perform m x c).next.object
-  perform_reached c small = go (admission m x (station_of c))
-    where
-      go : (q : Option Refusal) → d.Reached (unless m x q (admitted m x c)).next.object
-      go None = admitted_reached c small
-      go (Some e) = reached
+  perform_reached c small = let kept = admitted_reached c small in grind arith
