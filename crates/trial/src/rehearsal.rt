@@ -1,5 +1,5 @@
 ghost use Rattle.std.specs.Prelude.{◌≡◌, MatchResult};
-ghost use Rattle.trial.specs.Trials.{Begun, Rehearsed, Runs, tried};
+ghost use Rattle.trial.specs.Trials.{Begun, Rehearsed, Runs};
 
 use super::Trial;
 use super::call::{Answer, Call};
@@ -18,7 +18,7 @@ pub fn rehearse<D: DecidingObject>(
 ) -> Result<Vec<Answer>, AllocError>
     ensures runs { MatchResult result
         (λ answers. Runs D.DecidingObject trial.old calls.now answers.items trial.new)
-        (λ _. tried D.DecidingObject trial.new ≡ tried D.DecidingObject trial.old) }
+        (λ _. trial.new ≡ trial.old) }
     ensures law { Begun D.DecidingObject trial.old → MatchResult result
         (λ answers. Rehearsed D.DecidingObject trial.old calls.now answers.items trial.new)
         (λ _. Begun D.DecidingObject trial.new) }

@@ -12,6 +12,7 @@ loop-call-init g c =
       new.capacity,
       rw new.items
           (so_none (whole D) (refusable_deciding D.machine D.deciding) (tried D c.args.trial.now) c.args.calls.now (all_reached D.machine D.deciding D.state g.met.D.DecidingObject.reached c.args.trial.now.pile.made)),
+      λ e is. is,
     )
 
 pub loop-call-preserved : goal.loop-call-preserved
@@ -24,7 +25,8 @@ loop-call-preserved g c =
       omega arith,
       rw pushed.items
           (so_more (whole D) d (tried D c.args.trial.now) c.args.calls.now c.loop-call.call-index (vec_items c.loop-call.answers) (tried D c.loop-call.trial) _
-          c.perform.result (tried D c.perform.new.self) c.loop-call-test.true inv.2 c.perform.ensures),
+          c.perform.result (tried D c.perform.new.self) c.loop-call-test.true inv.2 c.perform.ensures.0),
+      λ e is. c.perform.ensures.1 e (inv.3 e is),
     )
 
 pub returns : goal.returns
@@ -39,7 +41,7 @@ returns g c =
     let y = tried D c.loop-call.trial in
     let all = c.loop-call-test.false in
     record {
-      runs = let so = c.loop-call.invariant.2 in record { answers = given_answers m d x calls i given y all so; last = given_last m d x calls i given y all so };
+      runs = let so = c.loop-call.invariant.2 in record { answers = given_answers m d x calls i given y all so; last = given_last m d x calls i given y all so; stays = c.loop-call.invariant.3 };
       law = λ begun.
           let so = c.loop-call.invariant.2 in
           let obeys = given_obeys m d x calls i given y all so (all_reached D.machine D.deciding D.state g.met.D.DecidingObject.reached c.args.trial.now.pile.made) begun.away begun.stopped in
