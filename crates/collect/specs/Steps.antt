@@ -9,7 +9,7 @@ use Rattle.collect.specs.declared.CollectPhase.TheVariants.{WriteMark, ReadMarks
 use Rattle.deciding.specs.Laws.{mark, marks}
 use Rattle.collect.specs.Ratifier.{full, vote, fits, found_in, verdict}
 use Rattle.collect.specs.Invariant.{Row, View, AgreesPast, CleanPast, Proposed, FullVote, TwoMarks, Pair, StationHolds, Invariant, agrees_mark}
-use Rattle.collect.specs.Facts.{found_from, verdict_mark, mark_differs, read_voted, vote_differs, others, full_once, full_proposed, differ}
+use Rattle.collect.specs.Facts.{found_keeps, found_full, found_from, verdict_commit, verdict_adopt, verdict_mark, verdict_takes, mark_differs, read_voted, vote_differs, others, full_once, full_proposed, differ}
 
 abbrev pub view_of : Row → ℕ → ℕ → View
 view_of row sign vote = record { row = row; mark_register = sign; vote_register = vote }
@@ -94,7 +94,10 @@ module _ (n : ℕ) (w : ℕ → View) (s : ℕ) (inv : Invariant n w) (below : s
       vote_finds : (x : ℕ) → (w i).vote_register ≡ full x → found' ≡ Some x
       vote_finds x e =
           let here : FullVote n w x = record { by = i; below = vote_there; votes = e } in
-          grind (arith, nat_tests, λ (y : ℕ) (f : found ≡ Some y). full_once n w inv y x (voting.single.found y f) here)
+          elim (found_full found (w i).vote_register x e) [
+            | inl f ↦ f
+            | inr (y, f) ↦ found_keeps found (w i).vote_register x (rw (full_once n w inv y x (voting.single.found y f) here) at f)
+          ]
 
       vote_saw_other : clean' ≡ false → TwoMarks n w
       vote_saw_other e =
@@ -133,7 +136,7 @@ module _ (n : ℕ) (w : ℕ → View) (s : ℕ) (inv : Invariant n w) (below : s
         out_takes j x near e f =
             let other : FullVote n w x = record { by = j; below = near; votes = e } in
             let own = λ (t : CleanPast next s v). full_once n w inv v x (record { by = s; below = below; votes = vote_clean v t }) other in
-            grind (arith, own)
+            verdict_takes v clean' found' x (λ t. own (refl, t, omega arith)) f
 
         out_valid : Proposed n w (mark outcome)
         out_valid = elim (verdict_mark v clean' found') [
@@ -150,8 +153,8 @@ module _ (n : ℕ) (w : ℕ → View) (s : ℕ) (inv : Invariant n w) (below : s
                 placed = omega arith;
                 mark_register = old.mark_register;
                 vote_register = old.vote_register;
-                saw_other = λ (u, e). vote_saw_other (grind arith);
-                clean = λ x e. vote_clean x (grind arith);
+                saw_other = λ (u, e). vote_saw_other (verdict_adopt v clean' found' u e);
+                clean = λ x e. let (same, t) = verdict_commit v clean' found' x e in vote_clean x (same, t, omega arith);
                 found = λ x h. absurd h;
                 takes = λ x _ e. out_takes s x below e (vote_takes x (omega arith) e);
                 valid = λ o e. rw e at out_valid;

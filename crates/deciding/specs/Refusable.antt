@@ -10,6 +10,7 @@ use Rattle.deciding.specs.Laws.{Laws, away_laws, stepped}
 use Rattle.deciding.specs.Machine.{Machine, Step, Enters, Steps, Beside}
 use Rattle.deciding.specs.Sizes.{Sizes, Sized, one_to_sixteen}
 use Rattle.deciding.specs.Deciding.{Deciding}
+use Rattle.deciding.specs.Calls.{entry, stepping}
 
 abbrev pub Refusable : Type 0 → Type 0
 Refusable S = Result S Refusal
@@ -163,3 +164,11 @@ module _ (m : Machine) (d : Deciding m) where
   -- an object with at least one station was not refused
   pub sizes_where_made : (x : m.State) → d.Reached x → one_to_sixteen (m.stations x) ≡ true → Sizes (m.stations x) (m.limit x) (m.registers x)
   sizes_where_made x reached small = let sized = d.sized x reached in grind (arith, nat_tests, small, sized.made, sized.unmade)
+
+-- THE CALLS, where the making passed: the answer is that of the machine inside, and what is left is its next state
+module _ (m : Machine) (x : m.State) where
+  pub entry_made : (s v : ℕ) → entry (refusable m) (with_refusal x None) s v ≡ record { answer = (entry m x s v).answer; state = with_refusal (entry m x s v).state None }
+  entry_made s v = grind arith
+
+  pub stepping_made : (s c : ℕ) → stepping (refusable m) (with_refusal x None) s c ≡ record { answer = (stepping m x s c).answer; state = with_refusal (stepping m x s c).state None }
+  stepping_made s c = grind arith

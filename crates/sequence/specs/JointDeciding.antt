@@ -12,8 +12,8 @@ use Rattle.deciding.specs.Laws.{Laws, stepped, record_prop}
 use Rattle.deciding.specs.Machine.{Machine, Step, Beside, Enters, Steps}
 use Rattle.deciding.specs.Sizes.{Sized, sizes_prop}
 use Rattle.deciding.specs.Deciding.{Deciding}
-use Rattle.sequence.specs.Joint.{Pair, pair, joined, Link, step_first, step_second, joint, Together}
-use Rattle.sequence.specs.JointLaws.{Going, going, joined_laws}
+use Rattle.sequence.specs.Joint.{Pair, pair, joined, Link, StepsFit, step_first, step_second, joint, Together}
+use Rattle.sequence.specs.JointLaws.{Going, going, away_first, joined_laws}
 
 link_prop : (a b : Record) → IsProp (Link a b)
 link_prop Away b = record_prop b Away
@@ -64,7 +64,7 @@ module _ (m n : Machine) (d : Deciding m) (e : Deciding n) where
     pub enter_changes : (v : ℕ) → Enters (joint m n) (pair x y) s v → Changes s (pair x y) (pair (m.enter x s v) y) (UnderWay v 0)
     enter_changes v h =
         let linked = together.linked s in
-        let g : Enters m x s v = record { below = h.below; away = grind (arith, h.away); small = h.small } in
+        let g : Enters m x s v = record { below = h.below; away = away_first (m.record_of x s) (n.record_of y s) h.away; small = h.small } in
         let own = d.enter_own x s v together.first g in
         changes (m.enter x s v) y (d.enter_reached x s v together.first g) together.second (d.enter_beside x s v together.first g) (beside_itself n s y)
         (grind (arith, g.away, own, linked)) (UnderWay v 0) (grind (arith, own))
@@ -129,6 +129,10 @@ module _ (m n : Machine) (d : Deciding m) (e : Deciding n) where
   joint_laws p t =
       joined_laws (m.limit p.first) (n.limit p.second) (m.ratifying p.first) (n.ratifying p.second) (m.record_of p.first) (n.record_of p.second) t.linked
       (d.laws p.first t.first) (e.laws p.second t.second)
+
+  -- the steps of both parts stay within the joined limit, and so can be counted
+  pub steps_fit : (p : Pair m.State n.State) → Together m n d e p → (s : ℕ) → StepsFit (m.record_of p.first s) (n.record_of p.second s)
+  steps_fit p t s = grind (arith, t.sizes, (d.laws p.first t.first).bounded_end s, (e.laws p.second t.second).bounded s, (e.laws p.second t.second).bounded_end s)
 
   pub together_prop : (p : Pair m.State n.State) → IsProp (Together m n d e p)
   together_prop p a b = λ i. record {

@@ -4,13 +4,10 @@ use Rattle.std.proofs.Common.{ap, sym, ◌∙◌, arith, lit≤, shr-shr}
 use Rattle.std.specs.Int.Count.{ones, ones_in, ones_step}
 use Rattle.std.proofs.lemmas.Bool.{eqb-true, eq-eqb, not_from_false}
 use Rattle.std.specs.Int.{bit_at}
-use Rattle.std.specs.List.{range_with_len}
 use Rattle.std.proofs.lemmas.Bool.Decides.{nat_tests}
-use Rattle.std.proofs.lemmas.List.Filters.{length-filter_both}
-use Rattle.std.proofs.lemmas.List.FromFn.{length-range_with_len}
 use Rattle.tables.specs.Table.{marks, Member, RegisterSet, Lawful}
 use Rattle.tables.specs.Bits.{differ}
-use Rattle.tables.specs.Picked.{picked, Within, picked_passes, picked_ascends, picked_member, distinct}
+use Rattle.tables.specs.Picked.{picked, Within, picked_passes, picked_ascends, picked_member, picked_both, distinct}
 use Rattle.tables.specs.HalfSets.{bit_is, places, sets, five, entry, half_sets, FiveOnes}
 
 -- as many places have a 1 as there are ones among n bits from i on
@@ -47,8 +44,7 @@ module _ (n size : ℕ) (number : ℕ → ℕ)
       places_ones (number v) 0 n ∙ ap (ones_in n) whole ∙ sized v h
 
   reads_sized : (v : ℕ) → v < marks → length (places (number v) 0 n) ≡ n - size
-  unfolding picked
-  reads_sized v h = omega (arith, writes_sized v h, length-filter_both (bit_is (number v) 1) (bit_is (number v) 0) (bit_opposite (number v)) (range_with_len 0 n), length-range_with_len 0 n)
+  reads_sized v h = omega (arith, writes_sized v h, picked_both (bit_is (number v) 1) (bit_is (number v) 0) (bit_opposite (number v)) 0 n)
 
   meet : (v u : ℕ) → v < marks → u < marks → u ≢ v → (r : ℕ) × Member r (places (number v) 1 n) × Member r (places (number u) 0 n)
   meet v u hv hu ne =

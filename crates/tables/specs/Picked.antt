@@ -49,7 +49,16 @@ module _ (f : ℕ → Bool) (i n : ℕ) where
       let at : slice_index (range_with_len i n) (m - i) ≡ m = omega (arith, get_or-range_with_len i n (m - i) 0 (omega arith)) in
       rw at at (filter_member f (range_with_len i n) (m - i) (omega (arith, length-range_with_len i n)) (rw at e))
 
--- two distinct sets, of which f's is no smaller: it has a member of its own
+module _ (f g : ℕ → Bool) where
+  -- a number passes one of two opposite tests
+  pub picked_both : ((m : ℕ) → g m ≡ not (f m)) → (i n : ℕ) → length (picked f i n) + length (picked g i n) ≡ n
+  unfolding picked
+  picked_both opposite i n = omega (arith, length-filter_both f g opposite (range_with_len i n), length-range_with_len i n)
+
+  -- some number of n from i on passes f alone
+  abbrev pub Alone : ℕ → ℕ → Type 0
+  Alone i n = (m : ℕ) × Within i n m × (f m ≡ true) × (g m ≡ false)
+
 module _ (f g : ℕ → Bool) (i n : ℕ) where
   abbrev not_f : ℕ → Bool
   not_f x = not (f x)
@@ -60,9 +69,9 @@ module _ (f g : ℕ → Bool) (i n : ℕ) where
   abbrev numbers : List ℕ
   numbers = range_with_len i n
 
-  -- Some number passes f alone if some number passes g alone.
-  no_fewer : length (filter g numbers) ≤ length (filter f numbers) → length (filter not_f (filter g numbers)) ≤ length (filter f (filter not_g numbers))
-  no_fewer l = omega (
+  -- The more numbers pass f than g, the more pass f alone than g alone.
+  counts : length (filter f numbers) + length (filter not_f (filter g numbers)) ≡ length (filter g numbers) + length (filter f (filter not_g numbers))
+  counts = omega (
     arith,
     length-filter_both f not_f (λ _. refl) (filter g numbers),
     sum_by-filter_both g not_g (λ _. refl) (λ x. cond (f x) 1 0) numbers,
@@ -71,17 +80,26 @@ module _ (f g : ℕ → Bool) (i n : ℕ) where
     length-filter f (filter not_g numbers),
   )
 
-  pub distinct : (m : ℕ) → Within i n m → f m ≢ g m → length (picked g i n) ≤ length (picked f i n) → (r : ℕ) × Within i n r × (f r ≡ true) × (g r ≡ false)
+  first_alone : 0 < length (filter f (filter not_g numbers)) → Alone f g i n
+  first_alone some = (
+    slice_index (filter f (filter not_g numbers)) 0,
+    All-filter f (Within i n) (filter not_g numbers) (All-filter not_g (Within i n) numbers (numbers_within i n)) 0 0 some,
+    filter_passes f (filter not_g numbers) 0 0 some,
+    not-true (g _) (All-filter f (λ x. not_g x ≡ true) (filter not_g numbers) (filter_passes not_g numbers) 0 0 some),
+  )
+
+  -- where more pass f than g
+  pub longer : length (picked g i n) < length (picked f i n) → Alone f g i n
+  unfolding picked
+  longer l = first_alone (omega (arith, counts))
+
+  -- two distinct sets, of which f's is no smaller: it has a member of its own
+  pub distinct : (m : ℕ) → Within i n m → f m ≢ g m → length (picked g i n) ≤ length (picked f i n) → Alone f g i n
   unfolding picked
   distinct m w ne l = elim (cases_Bool (f m)) [
     | inl passes ↦ (m, w, passes, false_from_ne_true (g m) (λ e. ne (passes ∙ sym e)))
     | inr fails ↦
         let of_g = picked_member g i n m w (true_from_ne_false (g m) (λ e. ne (fails ∙ sym e))) in
         let alone = filter_member not_f (filter g numbers) of_g.index of_g.below (rw of_g.is (not_from_false (f m) fails)) in
-        let some : 0 < length (filter f (filter not_g numbers)) = omega (arith, no_fewer l, alone.below) in (
-          slice_index (filter f (filter not_g numbers)) 0,
-          All-filter f (Within i n) (filter not_g numbers) (All-filter not_g (Within i n) numbers (numbers_within i n)) 0 0 some,
-          filter_passes f (filter not_g numbers) 0 0 some,
-          not-true (g _) (All-filter f (λ x. not_g x ≡ true) (filter not_g numbers) (filter_passes not_g numbers) 0 0 some),
-        )
+        first_alone (omega (arith, counts, alone.below))
   ]
