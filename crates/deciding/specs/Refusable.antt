@@ -1,6 +1,7 @@
 -- A making that may be refused. What it leaves is a state of the machine, or why it was refused: then it shows nothing at all. One
 -- text and one proof for every object whose making asks questions.
 use Rattle.std.specs.Prelude.{◌≡◌, ℕ, ◌<◌, ◌≤◌, true, false, Some, None, Ok, Err, Option, Result, refl}
+use Rattle.std.specs.Result.{result_err}
 use Rattle.std.proofs.Common.{arith}
 use Rattle.std.proofs.lemmas.Bool.Decides.{nat_tests}
 use Rattle.refusal.specs.declared.Refusal.{Refusal}
@@ -28,23 +29,15 @@ granted (Some r) = Err r
 pub was_granted : (q : Option Refusal) → ◌≡◌ {A = Result (Unit {0}) Refusal} (Ok tt) (granted q) → q ≡ None
 was_granted q e = grind arith
 
+-- why a question was not granted
+pub refused_with : (q : Option Refusal) → result_err (granted q) ≡ q
+refused_with None = refl
+refused_with (Some r) = refl
+
 -- what is told of the state, and what else where the making was refused
 abbrev pub where_made : {S A : Type 0} → (S → A) → A → Refusable S → A
 where_made f a (Ok x) = f x
 where_made f a (Err r) = a
-
--- the states of objects that a making left, or their refusals, which come with what was given to it
-abbrev pub state_made : {T S G : Type 0} → (T → S) → Result T (Refusal × G) → Refusable S
-state_made f (Ok t) = Ok (f t)
-state_made f (Err e) = Err e.0
-
--- a making that was refused with q left what was given to it as it was
-abbrev pub GivenBack : {T G : Type 0} → Option Refusal → G → Result T (Refusal × G) → Type 0
-GivenBack {T} {G} q given made = (r : Refusal) → q ≡ Some r → ◌≡◌ {A = Result T (Refusal × G)} made (Err (r, given))
-
--- and so it stays
-abbrev pub StaysRefused : {T G : Type 0} → Result T (Refusal × G) → Result T (Refusal × G) → Type 0
-StaysRefused {T} {G} old new = (e : Refusal × G) → ◌≡◌ {A = Result T (Refusal × G)} old (Err e) → ◌≡◌ {A = Result T (Refusal × G)} new (Err e)
 
 module _ (m : Machine) where
   abbrev pub refusal_made : Refusable m.State → Option Refusal
@@ -157,9 +150,10 @@ module _ (m : Machine) (d : Deciding m) where
     laws = laws;
   }
 
-  -- where every object is reached, so is whatever a making leaves
-  pub all_reached : {T G : Type 0} (state : T → m.State) → ((t : T) → d.Reached (state t)) → (made : Result T (Refusal × G)) → RefusableReached (state_made state made)
-  all_reached state every made = grind (arith, every)
+  -- where the object is reached, so is what a making leaves of it
+  pub reached_or_refused : (x : m.State) → d.Reached x → (q : Option Refusal) → RefusableReached (with_refusal x q)
+  reached_or_refused x r None = r
+  reached_or_refused x r (Some k) = tt
 
   -- an object with at least one station was not refused
   pub sizes_where_made : (x : m.State) → d.Reached x → one_to_sixteen (m.stations x) ≡ true → Sizes (m.stations x) (m.limit x) (m.registers x)

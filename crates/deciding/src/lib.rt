@@ -3,4 +3,3 @@
 pub mod object;
 pub mod questions;
 pub mod record;
-pub mod refusable;

@@ -1,5 +1,6 @@
--- A call of a station that is one, by what its row is.
-use Rattle.std.proofs.Common.{◌≡◌, ℕ, ◌<◌, true, ◌&&◌, ltb, List, length, get_or, set, Ok, Option, ap, ◌∙◌, arith}
+-- A call of a station that is one, by what its row is, first of a machine as it is and then of one whose making may have been
+-- refused.
+use Rattle.std.proofs.Common.{◌≡◌, ℕ, ◌<◌, Bool, true, false, ◌&&◌, ltb, List, length, get_or, set, Ok, None, Some, Option, Result, ap, ◌∙◌, refl, arith}
 use Rattle.std.proofs.Math.Logic.{∥∥₁_elim}
 use Rattle.std.proofs.Props.{props}
 use Rattle.std.proofs.lemmas.Bool.{ltb-true, and_parts}
@@ -9,13 +10,16 @@ use Rattle.deciding.specs.declared.record.Operation.{Operation}
 use Rattle.deciding.specs.declared.record.Outcome.{Outcome}
 use Rattle.deciding.specs.Laws.{marks}
 use Rattle.deciding.specs.Calls.{Entering, Stepping, entering_keeps, stepping_keeps}
+use Rattle.deciding.specs.Machine.{Machine}
+use Rattle.deciding.specs.Refusable.{refusable, where_made, with_refusal, entry_made, stepping_made}
+use Rattle.refusal.specs.declared.Refusal.{Refusal}
 use Rattle.machine.specs.declared.status.Status.{Status}
 use Rattle.machine.specs.declared.status.Status.TheVariants.{Absent, Running}
 use Rattle.machine.specs.declared.status.Plan.{Plan}
 use Rattle.machine.specs.Protocol.{Protocol, Running', shown, running, register_of, content_of, contents_after, operation_of, outcome_of, status_after, machine_of}
 use Rattle.machine.specs.Kept.{Kept}
 use Rattle.machine.specs.Rows.{Advances}
-use Rattle.machine.specs.Frame.{Good, running_deciding, running_good}
+use Rattle.machine.specs.Frame.{Good, MachineReached, running_deciding, running_good}
 
 module _ {Setup Phase : Type 0} (p : Protocol Setup Phase) {Meets : Phase → ℕ → Type 0} (kept : Kept p Meets)
     (x : Running' Setup Phase) (reached : (running_deciding p kept).Reached x) (s : ℕ) (seated : (ltb s (p.stations x.setup) && ltb s 16) ≡ true) where
@@ -62,3 +66,48 @@ module _ {Setup Phase : Type 0} (p : Protocol Setup Phase) {Meets : Phase → �
         let (out, row_is) = ∥∥₁_elim {P = (outcome ≡ outcome_of turn) × (row ≡ status_after v k turn)} merely (×_prop (hlevel props) (hlevel (props, phases))) (λ good.
         advances below (rw content (kept.meets _ _ _ s v k ph good.inv below is)) steps_few) in
         stepping_keeps (machine_of p) (running_deciding p kept) x s reached c _ _ (grind (arith, seat, is), grind (arith, seat, is))
+
+-- a call of what was made is one of the machine in it
+module _ (m : Machine) (x y : m.State) (s : ℕ) where
+  entering_made : (v : ℕ) (r : Result (Unit {0}) Refusal) → Entering m x s v r y → Entering (refusable m) (Ok x) s v r (Ok y)
+  entering_made v r e = rw (entry_made m x s v) (e.0, ap Ok e.1)
+
+  stepping_of_made : (c : ℕ) (r : Result (Operation × Option Outcome) Refusal) → Stepping m x s c r y → Stepping (refusable m) (Ok x) s c r (Ok y)
+  stepping_of_made c r e = rw (stepping_made m x s c) (e.0, ap Ok e.1)
+
+-- who is a station of a machine that may have been refused: it was not
+pub standing : {U : Type 0} (f : U → Bool) (u : U) (q : Option Refusal) → where_made f false (with_refusal u q) ≡ true → (q ≡ None) × (f u ≡ true)
+standing f u None e = (refl, e)
+standing f u (Some r) e = cc
+
+module _ {Setup Phase : Type 0} (p : Protocol Setup Phase) {Meets : Phase → ℕ → Type 0} (kept : Kept p Meets)
+    (x : Running' Setup Phase) (q : Option Refusal) (reached : MachineReached p kept x.setup x.contents x.table q) (s : ℕ)
+    (seated : where_made (λ u. ltb s (p.stations u) && ltb s 16) false (with_refusal x.setup q) ≡ true) where
+  none : q ≡ None
+  none = (standing _ _ q seated).0
+
+  seat_is : (ltb s (p.stations x.setup) && ltb s 16) ≡ true
+  seat_is = (standing _ _ q seated).1
+
+  pub as_made : (running_deciding p kept).Reached x
+  as_made = rw none at reached
+
+  pub made_enters : (v : ℕ) → v < marks → get_or x.table s Absent ≡ Absent → (i : ℕ) (begun : Phase) → i ≡ s → begun ≡ p.begun →
+      let t = set x.table i (Running v 0 begun) in
+      Entering (refusable (machine_of p)) (with_refusal x q) s v (Ok tt) (with_refusal (running x.setup x.contents t) q) × MachineReached p kept x.setup x.contents t q
+  made_enters v small away i begun here new =
+      let (e, r) = enter_new p kept x as_made s seat_is v small away i begun here new in
+      rw none (entering_made (machine_of p) x _ s v _ e, r)
+
+  module _ (c v k : ℕ) (ph : Phase) (is : get_or x.table s Absent ≡ Running v k ph) where
+    pub made_there : register_of (p.plan x.setup s v ph) < length x.contents
+    made_there = register_there p kept x as_made s seat_is c v k ph is
+
+    pub made_steps : IsSet Phase → (plan : Plan) (op : Operation) (ys : List ℕ) (i : ℕ) (d : Status Phase) (outcome : Option Outcome) (row : Status Phase) → plan ≡ p.plan x.setup s v ph →
+        op ≡ operation_of x.contents plan → ys ≡ contents_after x.contents plan →
+        i ≡ s → Advances p Meets x.setup s op.content c (get_or x.table i d) outcome row →
+        let t = set x.table i row in
+        Stepping (refusable (machine_of p)) (with_refusal x q) s c (Ok (op, outcome)) (with_refusal (running x.setup ys t) q) × MachineReached p kept x.setup ys t q
+    made_steps phases plan op ys i d outcome row planned oped left same advanced =
+        let (e, r) = steps_on p kept x as_made s seat_is c v k ph is phases plan op ys i d outcome row planned oped left same advanced in
+        rw none (stepping_of_made (machine_of p) x _ s c _ e, r)

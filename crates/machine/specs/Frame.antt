@@ -1,5 +1,5 @@
 -- A protocol with an invariant gives a deciding object on every board, and every making begins one. Assumes nothing.
-use Rattle.std.specs.Prelude.{◌≡◌, ℕ, ◌<◌, ◌≤◌, true, List, length, None, Decides, ◌==◌, replicate, slice_index, slice_index_or, slice_set, refl}
+use Rattle.std.specs.Prelude.{◌≡◌, ℕ, ◌<◌, ◌≤◌, true, List, length, None, Option, Decides, ◌==◌, replicate, slice_index, slice_index_or, slice_set, refl}
 use Rattle.std.proofs.Common.{ap, ◌∙◌, inl, inr, arith, length-set}
 use Rattle.std.proofs.Math.Logic.{∥∥₁_elim, ∥∥₁_map}
 use Rattle.std.specs.Coded.{le_prop}
@@ -12,7 +12,8 @@ use Rattle.deciding.specs.Laws.{stepped, record_prop, laws_found}
 use Rattle.deciding.specs.Machine.{Beside, Enters, Steps}
 use Rattle.deciding.specs.Sizes.{one_to_sixteen, sizes_prop}
 use Rattle.deciding.specs.Deciding.{Deciding}
-use Rattle.deciding.specs.Refusable.{refusable, refusable_deciding}
+use Rattle.deciding.specs.Refusable.{refusable, refusable_deciding, with_refusal}
+use Rattle.refusal.specs.declared.Refusal.{Refusal}
 use Rattle.machine.specs.declared.status.Status.{Status}
 use Rattle.machine.specs.declared.status.Status.TheVariants.{Absent, Running, Done}
 use Rattle.machine.specs.Protocol.{Protocol, Running', running, shown, machine_of}
@@ -119,6 +120,13 @@ module _ {Setup Phase : Type 0} (p : Protocol Setup Phase) {Meets : Phase → �
   abbrev pub kept_deciding : Deciding (refusable (machine_of p))
   kept_deciding = refusable_deciding (machine_of p) running_deciding
 
+  -- what a machine of the code keeps, of its setup, its board's contents, its table and whether it was refused
+  abbrev pub MachineReached : Setup → List ℕ → List (Status Phase) → Option Refusal → Type 0
+  MachineReached u xs t q = kept_deciding.Reached (with_refusal (running u xs t) q)
+
+  pub machine_reached_prop : (u : Setup) (xs : List ℕ) (t : List (Status Phase)) (q : Option Refusal) → IsProp (MachineReached u xs t q)
+  machine_reached_prop u xs t q = kept_deciding.reached_prop (with_refusal (running u xs t) q)
+
 -- THE MAKING
 -- a list of one value, with that value past its end too
 pub all_default : {A : Type 0} (k : ℕ) (x : A) (i : ℕ) → slice_index_or (replicate k x) i x ≡ x
@@ -149,3 +157,7 @@ module _ {Setup Phase : Type 0} (p : Protocol Setup Phase) {Meets : Phase → �
   -- whatever a making leaves is reached
   pub made_reached : (kept_deciding p kept).Reached (made p u xs)
   made_reached = grind (arith, fresh_reached)
+
+  -- so is a machine of the code, just made
+  pub new_reached : (q : Option Refusal) → q ≡ refusal_of p u xs → MachineReached p kept u xs (replicate rows Absent) q
+  new_reached q is = rw is made_reached

@@ -1,9 +1,11 @@
-ghost use Rattle.std.specs.Prelude.{◌≡◌, ℕ, ◌<◌, Bool, false, ◌&&◌, List, length, ◌==◌, nat_lt, slice_index, slice_index_or};
-ghost use Rattle.deciding.specs.Refusable.{GivenBack, granted};
+ghost use Rattle.std.specs.Prelude.{◌≡◌, ℕ, ◌<◌, Bool, false, Some, ◌&&◌, List, length, ◌==◌, nat_lt, slice_index, slice_index_or};
+ghost use Rattle.deciding.specs.Calls.{Entering, Stepping};
+ghost use Rattle.deciding.specs.Refusable.{granted, refusable, where_made, with_refusal};
 ghost use Rattle.machine.specs.declared.status.Status.TheVariants.{Absent};
+ghost use Rattle.refusal.specs.declared.Refusal.{Refusal as RefusedBy};
 ghost use Rattle.machine.specs.Protocol.{machine_of, running};
 ghost use Rattle.machine.specs.Making.{empty_below, refusal_of, made};
-ghost use Rattle.machine.specs.Frame.{running_deciding};
+ghost use Rattle.machine.specs.Frame.{MachineReached, kept_deciding, machine_reached_prop};
 ghost use Rattle.machine.specs.Rows.{Carried, Advances};
 
 use super::protocol::{Proposer, Protocol};
@@ -12,7 +14,6 @@ use board::Board;
 use deciding::object::DecidingObject;
 use deciding::questions::one_to_sixteen;
 use deciding::record::{Access, Operation, Outcome, Record};
-use deciding::refusable::Refusable;
 use refusal::Refusal;
 
 // Up to sixteen stations that run one protocol on one board, in fixed memory.
@@ -20,10 +21,11 @@ use refusal::Refusal;
 pub struct StepMachine<P: Protocol, B: Board> {
     protocol: P,
     board: B,
+    refused: Option<Refusal>,
     table: [Status<P::Phase>; 16],
     ghost whole: { length table ≡ 16 },
-    // It began new and was changed by enter and step only.
-    ghost reached: { (running_deciding P.Protocol.rules P.Protocol.kept).Reached (running protocol (B.Board.contents board) table) } by { (running_deciding P.Protocol.rules P.Protocol.kept).reached_prop (running protocol (B.Board.contents board) table) },
+    // Where its making passed, it began new and was changed by enter and step only.
+    ghost reached: { MachineReached P.Protocol.rules P.Protocol.kept protocol (B.Board.contents board) table refused } by { machine_reached_prop P.Protocol.rules P.Protocol.kept protocol (B.Board.contents board) table refused },
 }
 
 // Is the register empty, or not there?
@@ -111,26 +113,28 @@ fn advance<P: Protocol>(
 }
 
 impl<P: Protocol, B: Board> StepMachine<P, B> {
-    // A machine on the board as it is, if the questions of its making pass.
-    pub fn new(protocol: P, board: B) -> Refusable<StepMachine<P, B>, (P, B)>
-        ensures state { ⟦<Refusable<StepMachine<P, B>, (P, B)> as DecidingObject>⟧.state result ≡ made P.Protocol.rules protocol (B.Board.contents board) }
-        ensures given { GivenBack (refusal_of P.Protocol.rules protocol (B.Board.contents board)) (protocol, board) result.made }
+    // A machine on the board as it is. Where a question is answered no, the machine is refused: it has no stations.
+    pub fn new(protocol: P, board: B) -> StepMachine<P, B>
+        ensures state { ⟦<StepMachine<P, B> as DecidingObject>⟧.state result ≡ made P.Protocol.rules protocol (B.Board.contents board) }
+        ensures given { (result.protocol ≡ protocol) × (result.board ≡ board) }
     {
-        Refusable::new(match ask(&protocol, &board) {
-            Ok(()) => Ok(StepMachine {
-                protocol,
-                board,
-                table: [Status::Absent; 16],
-            }),
-            Err(refusal) => Err((refusal, (protocol, board))),
-        })
+        let refused = ask(&protocol, &board).err();
+        StepMachine {
+            protocol,
+            board,
+            refused,
+            table: [Status::Absent; 16],
+        }
     }
 
-    // Is it a station?
+    // Is it a station, of a machine whose making passed?
     fn has(&self, station: u8) -> bool
-        ensures { result ≡ (nat_lt station (P.Protocol.rules.stations self.now.protocol) && nat_lt station 16) }
+        ensures { result ≡ where_made (λ u. nat_lt station (P.Protocol.rules.stations u) && nat_lt station 16) false (with_refusal self.now.protocol self.now.refused) }
     {
-        station < self.protocol.stations() && station < 16
+        match self.refused {
+            None => station < self.protocol.stations() && station < 16,
+            Some(_) => false,
+        }
     }
 
     fn status(&self, station: u8) -> Status<P::Phase>
@@ -144,39 +148,59 @@ impl<P: Protocol, B: Board> StepMachine<P, B> {
 }
 
 impl<P: Protocol, B: Board> DecidingObject for StepMachine<P, B> {
-    ghost machine = { machine_of P.Protocol.rules };
+    ghost machine = { refusable (machine_of P.Protocol.rules) };
 
-    ghost deciding = { running_deciding P.Protocol.rules P.Protocol.kept };
+    ghost deciding = { kept_deciding P.Protocol.rules P.Protocol.kept };
 
-    ghost state = { λ x. running x.protocol (B.Board.contents x.board) x.table };
+    ghost state = { λ x. with_refusal (running x.protocol (B.Board.contents x.board) x.table) x.refused };
 
     ghost reached = { λ x. x.reached };
 
     fn stations(&self) -> u8 {
-        self.protocol.stations()
+        match self.refused {
+            None => self.protocol.stations(),
+            Some(_) => 0,
+        }
     }
 
     fn limit(&self) -> u16 {
-        self.protocol.limit()
+        match self.refused {
+            None => self.protocol.limit(),
+            Some(_) => 0,
+        }
     }
 
     fn registers(&self) -> u16 {
-        self.protocol.registers()
+        match self.refused {
+            None => self.protocol.registers(),
+            Some(_) => 0,
+        }
     }
 
     fn ratifying(&self) -> bool {
-        self.protocol.ratifying()
+        match self.refused {
+            None => self.protocol.ratifying(),
+            Some(_) => false,
+        }
     }
 
     fn refused(&self) -> Option<Refusal> {
-        None // a machine that was refused is in a `Refusable`
+        self.refused
     }
 
     fn record(&self, station: u8) -> Record {
-        self.status(station).into()
+        match self.refused {
+            None => self.status(station).into(),
+            Some(_) => Record::Away,
+        }
     }
 
-    fn enter(&mut self, station: u8, mark: u8) -> Result<(), Refusal> {
+    fn enter(&mut self, station: u8, mark: u8) -> Result<(), Refusal>
+        ensures calls { Entering (refusable (machine_of P.Protocol.rules))
+            (with_refusal (running self.old.protocol (B.Board.contents self.old.board) self.old.table) self.old.refused) station mark result
+            (with_refusal (running self.new.protocol (B.Board.contents self.new.board) self.new.table) self.new.refused) }
+        ensures given { (r : RefusedBy) → self.old.refused ≡ Some r → (self.new.protocol ≡ self.old.protocol) × (self.new.board ≡ self.old.board) }
+    {
         if !self.has(station) {
             return Err(Refusal::NoSuchStation);
         }
@@ -193,7 +217,12 @@ impl<P: Protocol, B: Board> DecidingObject for StepMachine<P, B> {
         }
     }
 
-    fn step(&mut self, station: u8, coin: u8) -> Result<(Operation, Option<Outcome>), Refusal> {
+    fn step(&mut self, station: u8, coin: u8) -> Result<(Operation, Option<Outcome>), Refusal>
+        ensures calls { Stepping (refusable (machine_of P.Protocol.rules))
+            (with_refusal (running self.old.protocol (B.Board.contents self.old.board) self.old.table) self.old.refused) station coin result
+            (with_refusal (running self.new.protocol (B.Board.contents self.new.board) self.new.table) self.new.refused) }
+        ensures given { (r : RefusedBy) → self.old.refused ≡ Some r → (self.new.protocol ≡ self.old.protocol) × (self.new.board ≡ self.old.board) }
+    {
         if !self.has(station) {
             return Err(Refusal::NoSuchStation);
         }

@@ -4,15 +4,12 @@ ghost use Rattle.rehearsal.specs.Piles.{cells};
 
 use board::cell::CellBoard;
 use deciding::object::DecidingObject;
-use deciding::refusable::Refusable;
 use machine::machine::StepMachine;
 use machine::protocol::Protocol;
 
 // A machine on a cell board of its own.
-pub(super) fn on_cells<P: Protocol>(
-    protocol: P,
-) -> Refusable<StepMachine<P, CellBoard>, (P, CellBoard)>
-    ensures { ⟦<Refusable<StepMachine<P, CellBoard>, (P, CellBoard)> as DecidingObject>⟧.state result ≡ made P.Protocol.rules protocol cells }
+pub(super) fn on_cells<P: Protocol>(protocol: P) -> StepMachine<P, CellBoard>
+    ensures { ⟦<StepMachine<P, CellBoard> as DecidingObject>⟧.state result ≡ made P.Protocol.rules protocol cells }
 {
     StepMachine::new(protocol, CellBoard::new())
 }

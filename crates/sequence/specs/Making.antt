@@ -65,3 +65,7 @@ module _ (m n : Machine) (d : Deciding m) (e : Deciding n) (x : m.State) (y : n.
   -- whatever a making leaves is reached
   pub sequence_made_reached : RefusableReached (joint m n) (joint_deciding m n d e) (sequence_made m n x y)
   sequence_made_reached = grind (arith, together)
+
+  -- so is a sequence of the code, just made
+  pub new_reached : (q : Option Refusal) → q ≡ sequence_refusal m n x y → RefusableReached (joint m n) (joint_deciding m n d e) (with_refusal (pair x y) q)
+  new_reached q is = rw is sequence_made_reached

@@ -1,7 +1,7 @@
 -- A sequence of the code, as the definitions have it, over the parts' own meaning.
 use Rattle.std.specs.Prelude.{◌≡◌, ℕ, ◌≤◌, true}
 use Rattle.deciding.specs.declared.object.DecidingObject.{Ghosts}
-use Rattle.deciding.specs.Refusable.{Refusable}
+use Rattle.deciding.specs.Refusable.{Refusable, refusable, refusable_deciding, with_refusal}
 use Rattle.sequence.specs.declared.Sequence.{Sequence}
 use Rattle.sequence.specs.Joint.{Pair, joint, goes_on}
 use Rattle.sequence.specs.JointDeciding.{joint_deciding}
@@ -12,9 +12,9 @@ module _ {X Y : Type 0} (G : Ghosts X) (K : Ghosts Y) where
   -- what a sequence is as a deciding object, for clauses that name it
   abbrev pub both : Ghosts (Sequence X Y G K)
   both = record {
-    machine = joint G.machine K.machine;
-    deciding = joint_deciding G.machine K.machine G.deciding K.deciding;
-    state = λ q. parts G K q.first q.second;
+    machine = refusable (joint G.machine K.machine);
+    deciding = refusable_deciding (joint G.machine K.machine) (joint_deciding G.machine K.machine G.deciding K.deciding);
+    state = λ q. with_refusal (parts G K q.first q.second) q.refused;
   }
 
   abbrev pub made_of : X → Y → Refusable (Pair G.machine.State K.machine.State)

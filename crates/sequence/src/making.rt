@@ -1,12 +1,11 @@
 ghost use Rattle.std.specs.Prelude.{◌≡◌, ℕ, ◌+◌, nat_le};
-ghost use Rattle.deciding.specs.Refusable.{GivenBack, granted};
+ghost use Rattle.deciding.specs.Refusable.{granted};
 ghost use Rattle.sequence.specs.Making.{sequence_refusal};
 ghost use Rattle.sequence.specs.States.{SecondAfter, made_of};
 
 use super::Sequence;
 use deciding::object::DecidingObject;
 use deciding::questions::{all_away, one_to_sixteen};
-use deciding::refusable::Refusable;
 use refusal::Refusal;
 
 // The largest limit, and the largest number of registers, that the parts may come to together.
@@ -38,15 +37,17 @@ fn ask<X: DecidingObject, Y: DecidingObject>(first: &X, second: &Y) -> Result<()
 }
 
 impl<X: DecidingObject, Y: DecidingObject> Sequence<X, Y> {
-    // The first object, then the second, if the questions of the making pass.
-    pub fn new(first: X, second: Y) -> Refusable<Sequence<X, Y>, (X, Y)>
-        ensures state { ⟦<Refusable<Sequence<X, Y>, (X, Y)> as DecidingObject>⟧.state result ≡ made_of X.DecidingObject Y.DecidingObject first second }
-        ensures given { GivenBack (sequence_refusal X.DecidingObject.machine Y.DecidingObject.machine (X.DecidingObject.state first) (Y.DecidingObject.state second)) (first, second) result.made }
+    // The first object, then the second. Where a question is answered no, the sequence is refused: it has no stations.
+    pub fn new(first: X, second: Y) -> Sequence<X, Y>
+        ensures state { ⟦<Sequence<X, Y> as DecidingObject>⟧.state result ≡ made_of X.DecidingObject Y.DecidingObject first second }
+        ensures given { (result.first ≡ first) × (result.second ≡ second) }
         ensures after { SecondAfter X.DecidingObject Y.DecidingObject }
     {
-        Refusable::new(match ask(&first, &second) {
-            Ok(()) => Ok(Sequence { first, second }),
-            Err(refusal) => Err((refusal, (first, second))),
-        })
+        let refused = ask(&first, &second).err();
+        Sequence {
+            first,
+            second,
+            refused,
+        }
     }
 }

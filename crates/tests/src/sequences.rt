@@ -1,14 +1,13 @@
 use board::cell::CellBoard;
 use collect::Collect;
 use deciding::object::DecidingObject;
-use deciding::refusable::Refusable;
 use machine::machine::StepMachine;
 use machine::protocol::Protocol;
 use refusal::Refusal;
 use sequence::Sequence;
 use waiting::Waiting;
 
-type Part<P> = Refusable<StepMachine<P, CellBoard>, (P, CellBoard)>;
+type Part<P> = StepMachine<P, CellBoard>;
 
 fn part<P: Protocol>(protocol: P) -> Part<P> {
     StepMachine::new(protocol, CellBoard::new())

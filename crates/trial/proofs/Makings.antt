@@ -7,8 +7,7 @@ use Rattle.deciding.specs.Sizes.{one_to_sixteen}
 use Rattle.deciding.specs.Machine.{Machine}
 use Rattle.deciding.specs.Deciding.{Deciding}
 use Rattle.deciding.specs.Questions.{all_are_away}
-use Rattle.deciding.specs.Refusable.{refusable, RefusableReached, with_refusal}
-use Rattle.deciding.specs.Refusable.{refusable_deciding}
+use Rattle.deciding.specs.Refusable.{refusable, refusable_deciding, reached_or_refused, RefusableReached, with_refusal}
 use Rattle.trial.specs.declared.call.Call.{Call}
 use Rattle.trial.specs.Perform.{AllSmall, trial_refusal}
 use Rattle.trial.specs.Trials.{LawfulTrial}
@@ -17,8 +16,7 @@ use Rattle.trial.proofs.LawOfRuns.{lawful}
 module _ (m : Machine) (d : Deciding m) (x : m.State) (reached : d.Reached x) where
   -- what the making leaves is reached, refused or not, and all its records are away
   pub trial_reached : (q : Option Refusal) → RefusableReached m d (with_refusal x q)
-  trial_reached None = reached
-  trial_reached (Some r) = tt
+  trial_reached = reached_or_refused m d x reached
 
   pub trial_away : (q : Option Refusal) → q ≡ trial_refusal m x → (s : ℕ) → (refusable m).record_of (with_refusal x q) s ≡ Away
   trial_away (Some r) e s = refl

@@ -1,9 +1,10 @@
 -- A trial of the code, as the definitions of Perform.antt and the law of runs have it.
-use Rattle.std.specs.Prelude.{◌≡◌, ℕ, false, List, length, slice_index_or}
+use Rattle.std.specs.Prelude.{◌≡◌, ℕ, false, Some, List, length, slice_index_or}
+use Rattle.refusal.specs.declared.Refusal.{Refusal}
 use Rattle.deciding.specs.declared.object.DecidingObject.{Ghosts}
 use Rattle.deciding.specs.declared.record.Record.TheVariants.{Away}
 use Rattle.deciding.specs.Machine.{Machine}
-use Rattle.deciding.specs.Refusable.{Refusable, StaysRefused, refusable, state_made, with_refusal}
+use Rattle.deciding.specs.Refusable.{Refusable, refusable, with_refusal}
 use Rattle.trial.specs.declared.call.Call.{Call}
 use Rattle.trial.specs.Answers.{Answer}
 use Rattle.trial.specs.declared.Trial.{Trial}
@@ -28,11 +29,15 @@ module _ {D : Type 0} (G : Ghosts D) where
   whole = refusable G.machine
 
   abbrev pub tried : Trial D → TrialState (Refusable G.machine.State)
-  tried t = record { object = state_made G.state t.pile.made; stopped = λ s. slice_index_or t.stopped s false }
+  tried t = record { object = with_refusal (G.state t.pile) t.refused; stopped = λ s. slice_index_or t.stopped s false }
 
-  -- a is the answer to the call c, and u the trial after it; a pile of which the trial was refused stays as it is
+  -- where the trial was refused it stays so, and the pile in it as it is
+  abbrev pub Stays : Trial D → Trial D → Type 0
+  Stays t u = (r : Refusal) → t.refused ≡ Some r → (u.refused ≡ Some r) × (u.pile ≡ t.pile)
+
+  -- a is the answer to the call c, and u the trial after it
   abbrev pub Does : Trial D → Call → Answer → Trial D → Type 0
-  Does t c a u = Performs whole (tried t) c a (tried u) × StaysRefused t.pile.made u.pile.made
+  Does t c a u = Performs whole (tried t) c a (tried u) × Stays t u
 
   -- a trial of this pile as its making leaves it
   abbrev pub made_of : D → TrialState (Refusable G.machine.State)
@@ -47,7 +52,7 @@ module _ {D : Type 0} (G : Ghosts D) where
   pub record Runs (t : Trial D) (calls : List Call) (given : List Answer) (u : Trial D) : Type 0 where
     pub answers : given ≡ answers whole (tried t) calls
     pub last : tried u ≡ last whole (tried t) calls
-    pub stays : StaysRefused t.pile.made u.pile.made
+    pub stays : Stays t u
 
   -- THE PROMISE: one answer to each call, and together they obey the law, with the numbers that the trial tells and its
   -- records at the end.

@@ -20,7 +20,7 @@ impl<D: DecidingObject> Trial<D> {
 
     fn set_stopped(&mut self, station: u8)
         ensures marks { station < 16 → (t : ℕ) → slice_index_or self.new.stopped t false ≡ (if nat_eq t station then true else slice_index_or self.old.stopped t false) }
-        ensures rest { self.new.pile ≡ self.old.pile }
+        ensures rest { (self.new.pile ≡ self.old.pile) × (self.new.refused ≡ self.old.refused) }
     {
         // What is written through `get_mut` to an array is lost to the proof.
         if station < 16 {

@@ -1,7 +1,10 @@
-use Rattle.deciding.specs.Refusable.{was_granted}
-use Rattle.sequence.specs.Making.{together}
+use Rattle.std.proofs.Common.{◌∙◌, ap}
+use Rattle.std.specs.Result.{result_err}
+use Rattle.deciding.specs.Refusable.{refused_with}
+use Rattle.sequence.specs.Making.{new_reached}
 use Rattle.sequence.proofs.Sequence.new.Goals as goal
 
-pub invariant_of-new : goal.invariant_of-new
-invariant_of-new g c =
-    record { reached = together _ _ _ _ _ _ (g.met.X.DecidingObject.reached c.args.first) (g.met.Y.DecidingObject.reached c.args.second) (was_granted _ c.in-Ok.ensures) }
+pub invariant_of-result : goal.invariant_of-result
+invariant_of-result g c =
+    record { reached = new_reached _ _ _ _ _ _ (g.met.X.DecidingObject.reached c.args.first) (g.met.Y.DecidingObject.reached c.args.second) _
+        (c.err-refused.ensures.value ∙ ap result_err c.ask.ensures ∙ refused_with _) }

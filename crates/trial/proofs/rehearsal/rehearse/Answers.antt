@@ -1,5 +1,5 @@
-use Rattle.std.proofs.Common.{vec_items, arith}
-use Rattle.deciding.specs.Refusable.{all_reached, refusable_deciding}
+use Rattle.std.proofs.Common.{vec_items, refl, ◌∙◌, arith}
+use Rattle.deciding.specs.Refusable.{reached_or_refused, refusable_deciding}
 use Rattle.trial.specs.Trials.{tried, whole}
 use Rattle.trial.proofs.Rehearsing.{so_none, so_more, given_answers, given_last, given_each, given_obeys}
 use Rattle.trial.proofs.rehearsal.rehearse.Goals as goal
@@ -11,8 +11,8 @@ loop-call-init g c =
       new.len,
       new.capacity,
       rw new.items
-          (so_none (whole D) (refusable_deciding D.machine D.deciding) (tried D c.args.trial.now) c.args.calls.now (all_reached D.machine D.deciding D.state g.met.D.DecidingObject.reached c.args.trial.now.pile.made)),
-      λ e is. is,
+          (so_none (whole D) (refusable_deciding D.machine D.deciding) (tried D c.args.trial.now) c.args.calls.now (reached_or_refused D.machine D.deciding _ (g.met.D.DecidingObject.reached c.args.trial.now.pile) c.args.trial.now.refused)),
+      λ r is. (is, refl),
     )
 
 pub loop-call-preserved : goal.loop-call-preserved
@@ -26,7 +26,7 @@ loop-call-preserved g c =
       rw pushed.items
           (so_more (whole D) d (tried D c.args.trial.now) c.args.calls.now c.loop-call.call-index (vec_items c.loop-call.answers) (tried D c.loop-call.trial) _
           c.perform.result (tried D c.perform.new.self) c.loop-call-test.true inv.2 c.perform.ensures.0),
-      λ e is. c.perform.ensures.1 e (inv.3 e is),
+      λ r is. let held = inv.3 r is in let now = c.perform.ensures.1 r held.0 in (now.0, now.1 ∙ held.1),
     )
 
 pub returns : goal.returns
@@ -44,6 +44,6 @@ returns g c =
       runs = let so = c.loop-call.invariant.2 in record { answers = given_answers m d x calls i given y all so; last = given_last m d x calls i given y all so; stays = c.loop-call.invariant.3 };
       law = λ begun.
           let so = c.loop-call.invariant.2 in
-          let obeys = given_obeys m d x calls i given y all so (all_reached D.machine D.deciding D.state g.met.D.DecidingObject.reached c.args.trial.now.pile.made) begun.away begun.stopped in
+          let obeys = given_obeys m d x calls i given y all so (reached_or_refused D.machine D.deciding _ (g.met.D.DecidingObject.reached c.args.trial.now.pile) c.args.trial.now.refused) begun.away begun.stopped in
           record { each = given_each m d x calls i given y all so; lawful = obeys.law; in_range = obeys.range };
     }

@@ -1,6 +1,6 @@
 use Rattle.std.proofs.Common.{◌≡◌, ◌≤◌, length, vec_items, vec_len, vec_capacity}
-use Rattle.deciding.specs.Refusable.{StaysRefused, refusable_deciding}
-use Rattle.trial.specs.Trials.{tried, whole}
+use Rattle.deciding.specs.Refusable.{refusable_deciding}
+use Rattle.trial.specs.Trials.{Stays, tried, whole}
 use Rattle.trial.proofs.Rehearsing.{So}
 use Rattle.trial.proofs.rehearsal.rehearse.Given as goal
 
@@ -10,4 +10,4 @@ invariant-loop-call g l =
     let start = l.initial.trial in
     (vec_len l.answers ≡ l.call-index) × (length l.calls ≤ vec_capacity l.answers) ×
     So (whole D) (refusable_deciding D.machine D.deciding) (tried D start) l.calls l.call-index (vec_items l.answers) (tried D l.trial) ×
-    StaysRefused start.pile.made l.trial.pile.made
+    Stays D start l.trial

@@ -1,6 +1,10 @@
-use Rattle.deciding.specs.Refusable.{was_granted}
-use Rattle.machine.specs.Frame.{fresh_reached}
+use Rattle.std.proofs.Common.{◌∙◌, ap}
+use Rattle.std.specs.Result.{result_err}
+use Rattle.deciding.specs.Refusable.{refused_with}
+use Rattle.machine.specs.Frame.{new_reached}
 use Rattle.machine.proofs.machine.StepMachine.new.Goals as goal
 
-pub invariant_of-new-clause-reached : goal.invariant_of-new-clause-reached
-invariant_of-new-clause-reached g c = fresh_reached g.P.Protocol.rules g.P.Protocol.kept c.args.protocol (g.B.Board.contents c.args.board) (was_granted _ c.in-Ok.ensures)
+pub invariant_of-result-clause-reached : goal.invariant_of-result-clause-reached
+invariant_of-result-clause-reached g c =
+    new_reached g.P.Protocol.rules g.P.Protocol.kept c.args.protocol (g.B.Board.contents c.args.board) _
+    (c.err-refused.ensures.value ∙ ap result_err c.ask.ensures ∙ refused_with _)
