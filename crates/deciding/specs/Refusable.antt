@@ -9,7 +9,7 @@ use Rattle.deciding.specs.declared.record.Access.TheVariants.{Read}
 use Rattle.deciding.specs.declared.record.Record.TheVariants.{Away, UnderWay}
 use Rattle.deciding.specs.Laws.{Laws, away_laws, stepped}
 use Rattle.deciding.specs.Machine.{Machine, Step, Enters, Steps, Beside}
-use Rattle.deciding.specs.Sizes.{Sizes, Sized, one_to_sixteen}
+use Rattle.deciding.specs.Sizes.{Sizes, Sized, one_to_sixteen, sizes_prop}
 use Rattle.deciding.specs.Deciding.{Deciding}
 use Rattle.deciding.specs.Calls.{entry, stepping}
 
@@ -40,8 +40,9 @@ where_made f a (Ok x) = f x
 where_made f a (Err r) = a
 
 module _ (m : Machine) where
+  -- a making that passed was not refused
   abbrev pub refusal_made : Refusable m.State → Option Refusal
-  refusal_made (Ok x) = m.refused x
+  refusal_made (Ok x) = None
   refusal_made (Err r) = Some r
 
   abbrev pub enter_made : Refusable m.State → ℕ → ℕ → Refusable m.State
@@ -67,16 +68,25 @@ module _ (m : Machine) where
   }
 
 module _ (m : Machine) (d : Deciding m) where
+  -- a making that passed makes an object of 1 to 16 stations
+  pub record Made (x : m.State) : Type 0 where
+    pub reached : d.Reached x
+    pub sizes : Sizes (m.stations x) (m.limit x) (m.registers x)
+
   abbrev pub RefusableReached : Refusable m.State → Type 0
-  RefusableReached (Ok x) = d.Reached x
+  RefusableReached (Ok x) = Made x
   RefusableReached (Err r) = Unit {0}
 
   pub reached_prop : (x : Refusable m.State) → IsProp (RefusableReached x)
-  reached_prop (Ok x) = d.reached_prop x
-  reached_prop (Err r) = λ a b. refl
+  reached_prop (Ok x) a b = λ i. record { reached = d.reached_prop x a.reached b.reached i; sizes = sizes_prop _ _ _ a.sizes b.sizes i }
+  reached_prop (Err r) a b = refl
+
+  -- it stays so whatever is called
+  still_made : (s : ℕ) (x y : m.State) → Made x → d.Reached y → Beside m s x y → Made y
+  still_made s x y made reached beside = record { reached = reached; sizes = rw (beside.stations, beside.limit, beside.registers) made.sizes }
 
   beside_made : {s : ℕ} {x y : m.State} → Beside m s x y → Beside (refusable m) s (Ok x) (Ok y)
-  beside_made b = record { stations = b.stations; limit = b.limit; registers = b.registers; ratifying = b.ratifying; refused = b.refused; others = b.others }
+  beside_made b = record { stations = b.stations; limit = b.limit; registers = b.registers; ratifying = b.ratifying; refused = refl; others = b.others }
 
   nobody : {P : Type 0} {s : ℕ} → s < 0 → P
   nobody below = absurd (omega (arith, below))
@@ -89,15 +99,15 @@ module _ (m : Machine) (d : Deciding m) where
     enters x e = record { below = e.below; away = e.away; small = e.small }
 
     pub enter_reached : (x : Refusable m.State) → RefusableReached x → MayEnter x → RefusableReached (enter_made m x s v)
-    enter_reached (Ok x) r e = d.enter_reached x s v r (enters x e)
+    enter_reached (Ok x) r e = still_made s x _ r (d.enter_reached x s v r.reached (enters x e)) (d.enter_beside x s v r.reached (enters x e))
     enter_reached (Err q) r e = tt
 
     pub enter_beside : (x : Refusable m.State) → RefusableReached x → MayEnter x → Beside (refusable m) s x (enter_made m x s v)
-    enter_beside (Ok x) r e = beside_made (d.enter_beside x s v r (enters x e))
+    enter_beside (Ok x) r e = beside_made (d.enter_beside x s v r.reached (enters x e))
     enter_beside (Err q) r e = nobody e.below
 
     pub enter_own : (x : Refusable m.State) → RefusableReached x → MayEnter x → (refusable m).record_of (enter_made m x s v) s ≡ UnderWay v 0
-    enter_own (Ok x) r e = d.enter_own x s v r (enters x e)
+    enter_own (Ok x) r e = d.enter_own x s v r.reached (enters x e)
     enter_own (Err q) r e = nobody e.below
 
   module _ (s c v k : ℕ) where
@@ -108,30 +118,31 @@ module _ (m : Machine) (d : Deciding m) where
     steps x e = record { below = e.below; under_way = e.under_way }
 
     pub step_reached : (x : Refusable m.State) → RefusableReached x → MayStep x → RefusableReached (step_made m x s c).next
-    step_reached (Ok x) r e = d.step_reached x s c v k r (steps x e)
+    step_reached (Ok x) r e = still_made s x _ r (d.step_reached x s c v k r.reached (steps x e)) (d.step_beside x s c v k r.reached (steps x e))
     step_reached (Err q) r e = tt
 
     pub step_beside : (x : Refusable m.State) → RefusableReached x → MayStep x → Beside (refusable m) s x (step_made m x s c).next
-    step_beside (Ok x) r e = beside_made (d.step_beside x s c v k r (steps x e))
+    step_beside (Ok x) r e = beside_made (d.step_beside x s c v k r.reached (steps x e))
     step_beside (Err q) r e = nobody e.below
 
     pub step_own : (x : Refusable m.State) → RefusableReached x → MayStep x → (refusable m).record_of (step_made m x s c).next s ≡ stepped (UnderWay v k) (step_made m x s c).outcome
-    step_own (Ok x) r e = d.step_own x s c v k r (steps x e)
+    step_own (Ok x) r e = d.step_own x s c v k r.reached (steps x e)
     step_own (Err q) r e = nobody e.below
 
     pub step_below : (x : Refusable m.State) → RefusableReached x → MayStep x → (step_made m x s c).operation.register < (refusable m).registers x
-    step_below (Ok x) r e = d.step_below x s c v k r (steps x e)
+    step_below (Ok x) r e = d.step_below x s c v k r.reached (steps x e)
     step_below (Err q) r e = nobody e.below
 
   pub away : (x : Refusable m.State) (s : ℕ) → RefusableReached x → (refusable m).stations x ≤ s → (refusable m).record_of x s ≡ Away
-  away x s r past = grind (arith, d.away)
+  away (Ok x) s r past = d.away x s r.reached past
+  away (Err q) s r past = refl
 
   pub sized : (x : Refusable m.State) → RefusableReached x → Sized (refusal_made m x) ((refusable m).stations x) ((refusable m).limit x) ((refusable m).registers x) ((refusable m).ratifying x)
-  sized (Ok x) r = d.sized x r
+  sized (Ok x) r = record { made = λ _. r.sizes; unmade = λ q h. cc }
   sized (Err q) r = grind arith
 
   pub laws : (x : Refusable m.State) → RefusableReached x → Laws ((refusable m).limit x) ((refusable m).ratifying x) ((refusable m).record_of x)
-  laws (Ok x) r = d.laws x r
+  laws (Ok x) r = d.laws x r.reached
   laws (Err q) r = away_laws false
 
   abbrev pub refusable_deciding : Deciding (refusable m)
@@ -149,11 +160,6 @@ module _ (m : Machine) (d : Deciding m) where
     sized = sized;
     laws = laws;
   }
-
-  -- where the object is reached, so is what a making leaves of it
-  pub reached_or_refused : (x : m.State) → d.Reached x → (q : Option Refusal) → RefusableReached (with_refusal x q)
-  reached_or_refused x r None = r
-  reached_or_refused x r (Some k) = tt
 
   -- an object with at least one station was not refused
   pub sizes_where_made : (x : m.State) → d.Reached x → one_to_sixteen (m.stations x) ≡ true → Sizes (m.stations x) (m.limit x) (m.registers x)

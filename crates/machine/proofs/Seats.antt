@@ -11,7 +11,7 @@ use Rattle.deciding.specs.declared.record.Outcome.{Outcome}
 use Rattle.deciding.specs.Laws.{marks}
 use Rattle.deciding.specs.Calls.{Entering, Stepping, entering_keeps, stepping_keeps}
 use Rattle.deciding.specs.Machine.{Machine}
-use Rattle.deciding.specs.Refusable.{refusable, where_made, with_refusal, entry_made, stepping_made}
+use Rattle.deciding.specs.Refusable.{Made, refusable, where_made, with_refusal, entry_made, stepping_made}
 use Rattle.refusal.specs.declared.Refusal.{Refusal}
 use Rattle.machine.specs.declared.status.Status.{Status}
 use Rattle.machine.specs.declared.status.Status.TheVariants.{Absent, Running}
@@ -89,15 +89,18 @@ module _ {Setup Phase : Type 0} (p : Protocol Setup Phase) {Meets : Phase → �
   seat_is : (ltb s (p.stations x.setup) && ltb s 16) ≡ true
   seat_is = (standing _ _ q seated).1
 
-  pub as_made : (running_deciding p kept).Reached x
-  as_made = rw none at reached
+  made : Made (machine_of p) (running_deciding p kept) x
+  made = rw none at reached
+
+  as_made : (running_deciding p kept).Reached x
+  as_made = made.reached
 
   pub made_enters : (v : ℕ) → v < marks → get_or x.table s Absent ≡ Absent → (i : ℕ) (begun : Phase) → i ≡ s → begun ≡ p.begun →
       let t = set x.table i (Running v 0 begun) in
       Entering (refusable (machine_of p)) (with_refusal x q) s v (Ok tt) (with_refusal (running x.setup x.contents t) q) × MachineReached p kept x.setup x.contents t q
   made_enters v small away i begun here new =
       let (e, r) = enter_new p kept x as_made s seat_is v small away i begun here new in
-      rw none (entering_made (machine_of p) x _ s v _ e, r)
+      rw none (entering_made (machine_of p) x _ s v _ e, record { reached = r; sizes = made.sizes })
 
   module _ (c v k : ℕ) (ph : Phase) (is : get_or x.table s Absent ≡ Running v k ph) where
     pub made_there : register_of (p.plan x.setup s v ph) < length x.contents
@@ -110,4 +113,4 @@ module _ {Setup Phase : Type 0} (p : Protocol Setup Phase) {Meets : Phase → �
         Stepping (refusable (machine_of p)) (with_refusal x q) s c (Ok (op, outcome)) (with_refusal (running x.setup ys t) q) × MachineReached p kept x.setup ys t q
     made_steps phases plan op ys i d outcome row planned oped left same advanced =
         let (e, r) = steps_on p kept x as_made s seat_is c v k ph is phases plan op ys i d outcome row planned oped left same advanced in
-        rw none (stepping_of_made (machine_of p) x _ s c _ e, r)
+        rw none (stepping_of_made (machine_of p) x _ s c _ e, record { reached = r; sizes = made.sizes })

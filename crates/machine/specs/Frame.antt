@@ -12,7 +12,7 @@ use Rattle.deciding.specs.Laws.{stepped, record_prop, laws_found}
 use Rattle.deciding.specs.Machine.{Beside, Enters, Steps}
 use Rattle.deciding.specs.Sizes.{one_to_sixteen, sizes_prop}
 use Rattle.deciding.specs.Deciding.{Deciding}
-use Rattle.deciding.specs.Refusable.{refusable, refusable_deciding, with_refusal}
+use Rattle.deciding.specs.Refusable.{Made, refusable, refusable_deciding, with_refusal}
 use Rattle.refusal.specs.declared.Refusal.{Refusal}
 use Rattle.machine.specs.declared.status.Status.{Status}
 use Rattle.machine.specs.declared.status.Status.TheVariants.{Absent, Running, Done}
@@ -154,9 +154,12 @@ module _ {Setup Phase : Type 0} (p : Protocol Setup Phase) {Meets : Phase → �
   unfolding running_deciding
   fresh_reached none = ∣ fresh_good none ∣₁
 
+  fresh_made : refusal_of p u xs ≡ None → Made (machine_of p) (running_deciding p kept) (fresh p u xs)
+  fresh_made none = let reached = fresh_reached none in record { reached = reached; sizes = ((running_deciding p kept).sized (fresh p u xs) reached).made refl }
+
   -- whatever a making leaves is reached
   pub made_reached : (kept_deciding p kept).Reached (made p u xs)
-  made_reached = grind (arith, fresh_reached)
+  made_reached = grind (arith, fresh_made)
 
   -- so is a machine of the code, just made
   pub new_reached : (q : Option Refusal) → q ≡ refusal_of p u xs → MachineReached p kept u xs (replicate rows Absent) q

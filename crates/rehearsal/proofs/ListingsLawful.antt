@@ -174,7 +174,7 @@ module _ (d : Built) (n : ℕ) (ready : ReadyPile n d) where
         record_of = m.record_of (last m x calls).object;
         law = rw ratifying at (lawful_trial d.machine d.deciding d.start d.reached calls s.small);
         range = in_range m (refusable_deciding d.machine d.deciding) (with_refusal d.start refused)
-            (trial_reached d.machine d.deciding d.start d.reached refused) (trial_away d.machine d.deciding d.start d.reached refused refl) calls s.small;
+            (trial_reached d.machine d.deciding d.start d.reached refused refl) (trial_away d.machine d.deciding d.start d.reached refused refl) calls s.small;
       }
 
   -- the line of its pile shows its numbers

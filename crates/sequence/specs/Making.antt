@@ -10,7 +10,7 @@ use Rattle.deciding.specs.Machine.{Machine}
 use Rattle.deciding.specs.Sizes.{one_to_sixteen}
 use Rattle.deciding.specs.Deciding.{Deciding}
 use Rattle.deciding.specs.Questions.{all_are_away}
-use Rattle.deciding.specs.Refusable.{Refusable, RefusableReached, sizes_where_made, with_refusal}
+use Rattle.deciding.specs.Refusable.{Made, Refusable, RefusableReached, sizes_where_made, with_refusal}
 use Rattle.sequence.specs.Joint.{Pair, pair, joint, Together}
 use Rattle.sequence.specs.JointDeciding.{joint_deciding}
 
@@ -62,9 +62,12 @@ module _ (m n : Machine) (d : Deciding m) (e : Deciding n) (x : m.State) (y : n.
         linked = λ s. grind (arith, all_are_away m d x reached_x few_x, all_are_away n e y reached_y few_y);
       }
 
+  made : sequence_refusal m n x y ≡ None → Made (joint m n) (joint_deciding m n d e) (pair x y)
+  made none = let reached = together none in record { reached = reached; sizes = reached.sizes }
+
   -- whatever a making leaves is reached
   pub sequence_made_reached : RefusableReached (joint m n) (joint_deciding m n d e) (sequence_made m n x y)
-  sequence_made_reached = grind (arith, together)
+  sequence_made_reached = grind (arith, made)
 
   -- so is a sequence of the code, just made
   pub new_reached : (q : Option Refusal) → q ≡ sequence_refusal m n x y → RefusableReached (joint m n) (joint_deciding m n d e) (with_refusal (pair x y) q)

@@ -2,7 +2,7 @@
 use Rattle.std.specs.Prelude.{◌≡◌, None, Option}
 use Rattle.refusal.specs.declared.Refusal.{Refusal}
 use Rattle.deciding.specs.declared.object.DecidingObject.{Ghosts}
-use Rattle.deciding.specs.Refusable.{RefusableReached, reached_prop, with_refusal}
+use Rattle.deciding.specs.Refusable.{Made, RefusableReached, reached_prop, with_refusal}
 use Rattle.sequence.specs.Joint.{Pair, pair, joint, Together}
 use Rattle.sequence.specs.JointDeciding.{joint_deciding}
 
@@ -23,7 +23,7 @@ module _ {X Y : Type 0} (G : Ghosts X) (K : Ghosts Y) where
 
   -- of one whose making passed this says the same of the parts
   pub parts_reached : (x : X) (y : Y) (q : Option Refusal) → q ≡ None → SequenceReached x y q → PartsReached x y
-  parts_reached x y q is reached = rw is at reached
+  parts_reached x y q is reached = let made : Made (joint G.machine K.machine) (joint_deciding G.machine K.machine G.deciding K.deciding) (parts x y) = rw is at reached in made.reached
 
   pub sequence_reached : (x : X) (y : Y) (q : Option Refusal) → q ≡ None → PartsReached x y → SequenceReached x y q
-  sequence_reached x y q is reached = rw is reached
+  sequence_reached x y q is reached = rw is (record { reached = reached; sizes = reached.sizes })

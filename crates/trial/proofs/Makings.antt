@@ -7,7 +7,7 @@ use Rattle.deciding.specs.Sizes.{one_to_sixteen}
 use Rattle.deciding.specs.Machine.{Machine}
 use Rattle.deciding.specs.Deciding.{Deciding}
 use Rattle.deciding.specs.Questions.{all_are_away}
-use Rattle.deciding.specs.Refusable.{refusable, refusable_deciding, reached_or_refused, RefusableReached, with_refusal}
+use Rattle.deciding.specs.Refusable.{refusable, refusable_deciding, sizes_where_made, RefusableReached, with_refusal}
 use Rattle.trial.specs.declared.call.Call.{Call}
 use Rattle.trial.specs.Perform.{AllSmall, trial_refusal}
 use Rattle.trial.specs.Trials.{LawfulTrial}
@@ -15,8 +15,12 @@ use Rattle.trial.proofs.LawOfRuns.{lawful}
 
 module _ (m : Machine) (d : Deciding m) (x : m.State) (reached : d.Reached x) where
   -- what the making leaves is reached, refused or not, and all its records are away
-  pub trial_reached : (q : Option Refusal) → RefusableReached m d (with_refusal x q)
-  trial_reached = reached_or_refused m d x reached
+  pub trial_reached : (q : Option Refusal) → q ≡ trial_refusal m x → RefusableReached m d (with_refusal x q)
+  trial_reached (Some r) e = tt
+  trial_reached None e =
+      let is : trial_refusal m x ≡ None = cc in
+      let small : one_to_sixteen (m.stations x) ≡ true = grind arith in
+      record { reached = reached; sizes = sizes_where_made m d x reached small }
 
   pub trial_away : (q : Option Refusal) → q ≡ trial_refusal m x → (s : ℕ) → (refusable m).record_of (with_refusal x q) s ≡ Away
   trial_away (Some r) e s = refl
@@ -30,4 +34,4 @@ module _ (m : Machine) (d : Deciding m) (x : m.State) (reached : d.Reached x) wh
   pub lawful_trial : (calls : List Call) → AllSmall calls → LawfulTrial m x calls
   lawful_trial calls small =
       lawful (refusable m) (refusable_deciding m d) (with_refusal x (trial_refusal m x))
-      (trial_reached (trial_refusal m x)) (trial_away (trial_refusal m x) refl) calls small
+      (trial_reached (trial_refusal m x) refl) (trial_away (trial_refusal m x) refl) calls small

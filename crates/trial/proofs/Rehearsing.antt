@@ -10,7 +10,6 @@ use Rattle.trial.specs.Events.{events_of}
 use Rattle.trial.specs.Law.{Lawful, InRange}
 use Rattle.trial.specs.Perform.{TrialState, begun, Small, AllSmall, perform, Performs, answers, last}
 use Rattle.trial.proofs.LawOfRuns.{lawful, in_range}
-use Rattle.trial.proofs.Performing.{perform_reached}
 
 -- one call more
 module _ (m : Machine) where
@@ -35,12 +34,11 @@ module _ (m : Machine) (d : Deciding m) where
   module _ (x : TrialState m.State) (calls : List Call) where
     pub record So (i : ℕ) (given : List Answer) (y : TrialState m.State) : Type 0 where
       pub small : AllSmall (take i calls)
-      pub reached : d.Reached y.object
       pub answers : given ≡ answers m x (take i calls)
       pub last : y ≡ last m x (take i calls)
 
-    pub so_none : d.Reached x.object → So 0 [] x
-    so_none r = record { small = tt; reached = r; answers = refl; last = refl }
+    pub so_none : So 0 [] x
+    so_none = record { small = tt; answers = refl; last = refl }
 
     pub so_more : (i : ℕ) (given : List Answer) (y : TrialState m.State) (c : Call) (a : Answer) (z : TrialState m.State) → i < length calls → So i given y →
         Performs m y (get_or calls i c) a z → So (i + 1) (given ++ (a ∷ [])) z
@@ -49,7 +47,6 @@ module _ (m : Machine) (d : Deciding m) where
         let more = take_more calls i c h in
         record {
           small = rw more (small_more (take i calls) k so.small p.small);
-          reached = subst (λ (t : TrialState m.State). d.Reached t.object) (sym p.next) (perform_reached m d y so.reached k p.small);
           answers = cc (answers_more m x (take i calls) k);
           last = cc (last_more m x (take i calls) k);
         }

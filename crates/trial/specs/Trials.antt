@@ -4,7 +4,7 @@ use Rattle.refusal.specs.declared.Refusal.{Refusal}
 use Rattle.deciding.specs.declared.object.DecidingObject.{Ghosts}
 use Rattle.deciding.specs.declared.record.Record.TheVariants.{Away}
 use Rattle.deciding.specs.Machine.{Machine}
-use Rattle.deciding.specs.Refusable.{Refusable, refusable, with_refusal}
+use Rattle.deciding.specs.Refusable.{Refusable, RefusableReached, refusable, with_refusal}
 use Rattle.trial.specs.declared.call.Call.{Call}
 use Rattle.trial.specs.Answers.{Answer}
 use Rattle.trial.specs.declared.Trial.{Trial}
@@ -45,6 +45,7 @@ module _ {D : Type 0} (G : Ghosts D) where
 
   -- as trials of piles begun new begin: all records away, nobody stopped
   pub record Begun (t : Trial D) : Type 0 where
+    pub reached : RefusableReached G.machine G.deciding (tried t).object
     pub away : (s : ℕ) → whole.record_of (tried t).object s ≡ Away
     pub stopped : (s : ℕ) → (tried t).stopped s ≡ false
 

@@ -77,10 +77,7 @@ impl<D: DecidingObject> Trial<D> {
     pub fn refused(&self) -> Option<Refusal>
         ensures { result ≡ (whole D.DecidingObject).refused (tried D.DecidingObject self.now).object }
     {
-        match self.refused {
-            None => self.pile.refused(),
-            Some(refusal) => Some(refusal),
-        }
+        self.refused
     }
 
     pub fn record(&self, station: u8) -> Record

@@ -1,5 +1,5 @@
 use Rattle.std.proofs.Common.{vec_items, refl, ◌∙◌, arith}
-use Rattle.deciding.specs.Refusable.{reached_or_refused, refusable_deciding}
+use Rattle.deciding.specs.Refusable.{refusable_deciding}
 use Rattle.trial.specs.Trials.{tried, whole}
 use Rattle.trial.proofs.Rehearsing.{so_none, so_more, given_answers, given_last, given_each, given_obeys}
 use Rattle.trial.proofs.rehearsal.rehearse.Goals as goal
@@ -11,7 +11,7 @@ loop-call-init g c =
       new.len,
       new.capacity,
       rw new.items
-          (so_none (whole D) (refusable_deciding D.machine D.deciding) (tried D c.args.trial.now) c.args.calls.now (reached_or_refused D.machine D.deciding _ (g.met.D.DecidingObject.reached c.args.trial.now.pile) c.args.trial.now.refused)),
+          (so_none (whole D) (refusable_deciding D.machine D.deciding) (tried D c.args.trial.now) c.args.calls.now),
       λ r is. (is, refl),
     )
 
@@ -44,6 +44,6 @@ returns g c =
       runs = let so = c.loop-call.invariant.2 in record { answers = given_answers m d x calls i given y all so; last = given_last m d x calls i given y all so; stays = c.loop-call.invariant.3 };
       law = λ begun.
           let so = c.loop-call.invariant.2 in
-          let obeys = given_obeys m d x calls i given y all so (reached_or_refused D.machine D.deciding _ (g.met.D.DecidingObject.reached c.args.trial.now.pile) c.args.trial.now.refused) begun.away begun.stopped in
+          let obeys = given_obeys m d x calls i given y all so begun.reached begun.away begun.stopped in
           record { each = given_each m d x calls i given y all so; lawful = obeys.law; in_range = obeys.range };
     }

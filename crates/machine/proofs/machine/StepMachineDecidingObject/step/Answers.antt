@@ -9,7 +9,7 @@ pub returns-in_err-operation-in-Running : goal.returns-in_err-operation-in-Runni
 returns-in_err-operation-in-Running g c =
     let self = c.args.self.now in
     let there = made_there g.P.Protocol.rules g.P.Protocol.kept (running self.protocol (g.B.Board.contents self.board) self.table) self.refused self.reached c.args.station (sym c.if-not-has.ensures)
-        c.args.coin _ _ _ (sym c.in-Running.ensures) in
+    c.args.coin _ _ _ (sym c.in-Running.ensures) in
     absurd (grind (arith, there, c.plan-plan.ensures, c.in_err-operation-in-Running.ensures))
 
 pub invariant_of-self-in-Running-clause-reached : goal.invariant_of-self-in-Running-clause-reached
