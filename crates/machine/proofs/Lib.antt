@@ -1,2 +1,3 @@
+mod Empties
 pub mod Passing
 pub mod Seats

@@ -1,12 +1,15 @@
-use Rattle.std.proofs.Common.{◌==◌, slice_index, refl, rules}
-use Rattle.std.proofs.lemmas.Bool.Decides.{same_from_decides}
-use Rattle.deciding.specs.Below.{all_below}
-use Rattle.machine.specs.Frame.{empties}
+use Rattle.std.proofs.Common.{◌≡◌, true, false, eqb, get_or, sym}
+use Rattle.machine.proofs.Empties.{empty_more, not_empty}
 use Rattle.machine.proofs.machine.all_empty.Goals as goal
 
-pub returns : goal.returns
-returns g c =
+pub loop-register-preserved : goal.loop-register-preserved
+loop-register-preserved g c =
     let xs = g.B.Board.contents c.args.board.now in
-    same_from_decides _ _
-    (all_below _ _ _ c.args.registers (λ i. slice_index xs i == 0) c.all.result refl c.all.ensures.ran (search rules) (search rules))
-    (empties xs c.args.registers)
+    let here : eqb (get_or xs c.loop-register.register 0) 0 ≡ true = cc in
+    empty_more xs c.loop-register.register here c.loop-register.invariant
+
+pub returns-then-not-is_empty : goal.returns-then-not-is_empty
+returns-then-not-is_empty g c =
+    let xs = g.B.Board.contents c.args.board.now in
+    let here : eqb (get_or xs c.loop-register.register 0) 0 ≡ false = cc in
+    sym (not_empty xs c.loop-register.register c.args.registers c.loop-register-test.true here)
