@@ -5,6 +5,7 @@ use machine::machine::StepMachine;
 use machine::protocol::Protocol;
 use refusal::Refusal;
 use sequence::Sequence;
+use trial::Trial;
 use waiting::Waiting;
 
 type Part<P> = StepMachine<P, CellBoard>;
@@ -49,4 +50,15 @@ fn a_joined_limit_of_1000_passes(rt: HostRuntime) {
     let past = Sequence::new(waiting_part(500), waiting_part(501));
     assert_eq!(rt; past.refused(), Some(Refusal::TooLarge));
     assert_eq!(rt; past.limit(), 0);
+}
+
+// A type that names its parts more than once grows too fast for this.
+#[test]
+fn three_machines_in_sequence_have_a_trial(rt: HostRuntime) {
+    let back = Sequence::new(collect_part(2), collect_part(2));
+    let mut trial = Trial::new(Sequence::new(collect_part(2), back));
+    assert_eq!(rt; trial.limit(), 18);
+    assert_eq!(rt; trial.registers(), 12);
+    assert!(rt; trial.enter(1, 7).is_ok());
+    assert!(rt; trial.step(1, 0).is_ok());
 }
