@@ -1,8 +1,12 @@
-use Rattle.std.proofs.Common.{sym, arith}
+use Rattle.std.proofs.Common.{sym, arith, rules}
 use Rattle.machine.specs.Protocol.{running}
 use Rattle.machine.proofs.Seats.{made_there, made_steps}
 use Rattle.machine.proofs.machine.StepMachineDecidingObject.step.Goals as goal
 use base.Stored.{Coded-set}
+
+-- without this answer a step that clears the row of a station that is done would be refused for a name first
+pub returns-in-Done-clause-calls : goal.returns-in-Done-clause-calls
+returns-in-Done-clause-calls g c = search rules
 
 -- a reached machine finds its register
 pub returns-in_err-operation-in-Running : goal.returns-in_err-operation-in-Running
