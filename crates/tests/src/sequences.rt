@@ -52,7 +52,6 @@ fn a_joined_limit_of_1000_passes(rt: HostRuntime) {
     assert_eq!(rt; past.limit(), 0);
 }
 
-// The check takes this only while the type of a sequence names each of its parts once.
 #[test]
 fn three_machines_in_sequence_have_a_trial(rt: HostRuntime) {
     let back = Sequence::new(collect_part(2), collect_part(2));
