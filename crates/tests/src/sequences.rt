@@ -52,12 +52,14 @@ fn a_joined_limit_of_1000_passes(rt: HostRuntime) {
     assert_eq!(rt; past.limit(), 0);
 }
 
+// A type that names its parts twice at each level grows too large for the check at four machines.
 #[test]
-fn three_machines_in_sequence_have_a_trial(rt: HostRuntime) {
-    let back = Sequence::new(collect_part(2), collect_part(2));
-    let mut trial = Trial::new(Sequence::new(collect_part(2), back));
-    assert_eq!(rt; trial.limit(), 18);
-    assert_eq!(rt; trial.registers(), 12);
+fn four_machines_in_sequence_have_a_trial(rt: HostRuntime) {
+    let third = Sequence::new(collect_part(2), collect_part(2));
+    let second = Sequence::new(collect_part(2), third);
+    let mut trial = Trial::new(Sequence::new(collect_part(2), second));
+    assert_eq!(rt; trial.limit(), 24);
+    assert_eq!(rt; trial.registers(), 16);
     assert!(rt; trial.enter(1, 7).is_ok());
     assert!(rt; trial.step(1, 0).is_ok());
 }
