@@ -146,7 +146,7 @@ impl<P: Protocol, B: Board> StepMachine<P, B> {
     fn status(&self, station: u8) -> Status<P::Phase>
         ensures { result ≡ slice_index_or self.now.table station Absent }
     {
-        // With `copied` the compiler copies a new table row by row, and a making takes about twice the time.
+        // With `copied` the compiler copies a new table row by row, and a making takes several times the time.
         *self
             .table
             .get(usize::from(station))

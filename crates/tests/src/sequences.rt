@@ -52,7 +52,7 @@ fn a_joined_limit_of_1000_passes(rt: HostRuntime) {
     assert_eq!(rt; past.limit(), 0);
 }
 
-// A type that names its parts twice at each level grows too large for the check at four machines.
+// Where each value has its parts twice, as a `Result` of the object or of what was given to it has, the check refuses four.
 #[test]
 fn four_machines_in_sequence_have_a_trial(rt: HostRuntime) {
     let third = Sequence::new(collect_part(2), collect_part(2));
