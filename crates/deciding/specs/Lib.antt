@@ -2,6 +2,7 @@ pub mod Away
 pub mod Below
 pub mod Calls
 pub mod Deciding
+pub mod Held
 pub mod Laws
 pub mod Machine
 pub mod Questions

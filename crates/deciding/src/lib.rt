@@ -3,3 +3,4 @@
 pub mod object;
 pub mod questions;
 pub mod record;
+pub mod refusable;

@@ -6,6 +6,8 @@ mod calls;
 #[cfg(test)]
 mod piles;
 #[cfg(test)]
+mod refusables;
+#[cfg(test)]
 mod runs;
 #[cfg(test)]
 mod sequences;

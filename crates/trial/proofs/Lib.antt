@@ -3,3 +3,4 @@ pub mod LawOfRuns
 pub mod Makings
 pub mod Performing
 pub mod Rehearsing
+pub mod Untouched

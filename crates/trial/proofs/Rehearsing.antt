@@ -10,6 +10,7 @@ use Rattle.trial.specs.Events.{events_of}
 use Rattle.trial.specs.Law.{Lawful, InRange}
 use Rattle.trial.specs.Perform.{TrialState, begun, Small, AllSmall, perform, Performs, answers, last}
 use Rattle.trial.proofs.LawOfRuns.{lawful, in_range}
+use Rattle.trial.proofs.Performing.{last_reached}
 
 -- one call more
 module _ (m : Machine) where
@@ -51,12 +52,16 @@ module _ (m : Machine) (d : Deciding m) where
           last = cc (last_more m x (take i calls) k);
         }
 
+    -- and y is reached if x is
+    pub so_reached : (i : ℕ) (given : List Answer) (y : TrialState m.State) → So i given y → d.Reached x.object → d.Reached y.object
+    so_reached i given y so r = rw so.last (last_reached m d x r (take i calls) so.small)
+
   -- THE LAW, of a trial that begins with all records away and nobody stopped
   pub record Obeys (x : TrialState m.State) (calls : List Call) (given : List Answer) (y : TrialState m.State) : Type 0 where
     pub law : Lawful (m.stations x.object) (m.limit x.object) (m.ratifying x.object) (events_of calls given) (m.record_of y.object)
     pub range : InRange (m.registers x.object) (events_of calls given)
 
-  obeys : (x : TrialState m.State) → d.Reached x.object → ((s : ℕ) → m.record_of x.object s ≡ Away) → ((s : ℕ) → x.stopped s ≡ false) → (calls : List Call) → AllSmall calls →
+  pub obeys : (x : TrialState m.State) → d.Reached x.object → ((s : ℕ) → m.record_of x.object s ≡ Away) → ((s : ℕ) → x.stopped s ≡ false) → (calls : List Call) → AllSmall calls →
       Obeys x calls (answers m x calls) (last m x calls)
   obeys x reached away none calls small =
       let start : begun x.object ≡ x = λ i. record { object = x.object; stopped = λ s. sym (none s) i } in
@@ -68,6 +73,9 @@ module _ (m : Machine) (d : Deciding m) where
     whole_list : take i calls ≡ calls
     whole_list = take_all i calls all
 
+    pub given_small : AllSmall calls
+    given_small = subst AllSmall whole_list so.small
+
     pub given_answers : given ≡ answers m x calls
     given_answers = so.answers ∙ ap (answers m x) whole_list
 
@@ -78,4 +86,4 @@ module _ (m : Machine) (d : Deciding m) where
     given_each = ap length given_answers ∙ length-answers m x calls
 
     pub given_obeys : d.Reached x.object → ((s : ℕ) → m.record_of x.object s ≡ Away) → ((s : ℕ) → x.stopped s ≡ false) → Obeys x calls given y
-    given_obeys reached away none = rw (given_answers, given_last) (obeys x reached away none calls (subst AllSmall whole_list so.small))
+    given_obeys reached away none = rw (given_answers, given_last) (obeys x reached away none calls given_small)

@@ -49,6 +49,11 @@ module _ {D : Type 0} (G : Ghosts D) where
     pub away : (s : ℕ) → whole.record_of (tried t).object s ≡ Away
     pub stopped : (s : ℕ) → (tried t).stopped s ≡ false
 
+  -- all records are away and nobody is stopped, whatever led there
+  pub record Untouched (t : Trial D) : Type 0 where
+    pub away : (s : ℕ) → whole.record_of (tried t).object s ≡ Away
+    pub stopped : (s : ℕ) → (tried t).stopped s ≡ false
+
   -- the answers to a list of calls, put to the trial t, and the trial u after them
   pub record Runs (t : Trial D) (calls : List Call) (given : List Answer) (u : Trial D) : Type 0 where
     pub answers : given ≡ answers whole (tried t) calls

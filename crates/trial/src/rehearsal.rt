@@ -1,5 +1,5 @@
 ghost use Rattle.std.specs.Prelude.{◌≡◌, MatchResult};
-ghost use Rattle.trial.specs.Trials.{Begun, Rehearsed, Runs};
+ghost use Rattle.trial.specs.Trials.{Begun, Rehearsed, Runs, Untouched};
 
 use super::Trial;
 use super::call::{Answer, Call};
@@ -10,7 +10,8 @@ use std::alloc::{AllocError, Global};
 // no call is made.
 //
 // `law` is the promise about whole runs: whatever the calls are, in whatever order the stations step and whichever
-// stop, the answers of a trial that began new obey the law of specs/Law.antt.
+// stop, the answers of a trial that began new obey the law of specs/Law.antt. `untouched` asks less of the trial for it:
+// that all records are away and nobody is stopped.
 pub fn rehearse<D: DecidingObject>(
     trial: &mut Trial<D>,
     calls: &[Call],
@@ -22,6 +23,9 @@ pub fn rehearse<D: DecidingObject>(
     ensures law { Begun D.DecidingObject trial.old → MatchResult result
         (λ answers. Rehearsed D.DecidingObject trial.old calls.now answers.items trial.new)
         (λ _. Begun D.DecidingObject trial.new) }
+    ensures untouched { Untouched D.DecidingObject trial.old → MatchResult result
+        (λ answers. Rehearsed D.DecidingObject trial.old calls.now answers.items trial.new)
+        (λ _. Untouched D.DecidingObject trial.new) }
 {
     let mut answers = Vec::with_capacity(heap, calls.len())?;
     for call in calls {

@@ -1,7 +1,8 @@
 use Rattle.std.proofs.Common.{vec_items, refl, ◌∙◌, arith}
 use Rattle.deciding.specs.Refusable.{refusable_deciding}
 use Rattle.trial.specs.Trials.{tried, whole}
-use Rattle.trial.proofs.Rehearsing.{so_none, so_more, given_answers, given_last, given_each, given_obeys}
+use Rattle.trial.proofs.Rehearsing.{so_none, so_more, given_small, given_answers, given_last, given_each, given_obeys}
+use Rattle.trial.proofs.Untouched.{held_reached, held_obeys}
 use Rattle.trial.proofs.rehearsal.rehearse.Goals as goal
 
 pub loop-call-init : goal.loop-call-init
@@ -45,5 +46,11 @@ returns g c =
       law = λ begun.
           let so = c.loop-call.invariant.2 in
           let obeys = given_obeys m d x calls i given y all so begun.reached begun.away begun.stopped in
+          record { each = given_each m d x calls i given y all so; lawful = obeys.law; in_range = obeys.range };
+      untouched = λ untouched.
+          let so = c.loop-call.invariant.2 in
+          let reached = held_reached D.machine D.deciding (D.state c.args.trial.now.pile) (g.met.D.DecidingObject.reached c.args.trial.now.pile) c.args.trial.now.refused in
+          let obeys = held_obeys D.machine D.deciding x reached untouched.away untouched.stopped calls (given_small m d x calls i given y all so)
+          given (given_answers m d x calls i given y all so) y (given_last m d x calls i given y all so) in
           record { each = given_each m d x calls i given y all so; lawful = obeys.law; in_range = obeys.range };
     }
